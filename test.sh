@@ -1,11 +1,11 @@
 #!/usr/bin/env bash
-# Passes everything: layout; the names and promises in the documents; every crate proved from nothing, every must-fail edit refused and every
-# program run; the edits of the rules that a theorem must refuse; the example sites, their traces and the ways a trace ends; the lines of the
+# Passes everything: the names and promises in the documents; `rt ci`: layout, every crate proved, every must-fail edit refused and every
+# program run; the edits of the rules that a theorem must refuse; the example sites, their traces and the ways a trace ends; the entries of the
 # table of yellow times; the vectors; the tests of rust/ and the library against the model; cabinets; retimings; sealed states; waits; the
 # library from C and for other processors; the workbench; the checks themselves on empty input, which must fail.
 #
-#     ./test.sh                     everything, from nothing
-#     ./test.sh --after-proofs      no edit is tried, and what is proved in target/ is not proved again. This is not the verdict
+#     ./test.sh                     everything
+#     ./test.sh --after-proofs      no edit is tried, and what an earlier check kept is not proved again (rt all check). This is not the verdict
 #
 # It says first which Debian packages it will install (as root; tools/install.sh). The checks that failed are named at the end. The last line
 # is `N passed, M failed`; the exit status is 0 only if M is 0.
@@ -43,7 +43,6 @@ check() { # WHAT COMMAND..
     if "$@"; then passed=$((passed + 1)); else fails "$what"; fi
 }
 
-check 'layout (rt fmt --check)' rt fmt --check
 check 'names in the documents' python3 docs/check_names.py
 check 'promises in the README' python3 docs/promises.py
 check 'docs/TRUSTED.md' python3 docs/trusted.py --check
@@ -51,21 +50,7 @@ check 'outcomes that a contract leaves open' python3 docs/open_outcomes.py --che
 
 log=$(mktemp)
 room=$(mktemp -d)
-proving=''
-trap 'rm -rf "$log" "$room" "$proving"' EXIT
-
-# Each check of a crate writes the checked modules of all that the crate uses, up to 300 MB, to the folder for temporary files. On a disk that takes
-# a second or two of processor time. So the proofs have a folder in memory, if 8 GB of memory are left, 4 GB of them may be such a folder, and programs may run
-# from it: `rt ci` runs the proved programs there as nobody, who has to reach it.
-left() { awk '$1 == "MemAvailable:" { print $2 }' /proc/meminfo; }
-folder_in_memory() {
-    [ "$(stat -f -c %T /dev/shm 2>/dev/null)" = tmpfs ] && [ "$(left)" -ge 8000000 ] || return 1
-    [ "$(df --output=avail /dev/shm | tail -n 1)" -ge 4000000 ] || return 1
-    made=$(mktemp -d /dev/shm/willowera.XXXXXX) || return 1
-    if chmod 711 "$made" && cp /bin/true "$made/true" && "$made/true"; then echo "$made"; else rm -rf "$made" && return 1; fi
-}
-proving=$(folder_in_memory) || proving=$(mktemp -d)
-chmod 711 "$proving"
+trap 'rm -rf "$log" "$room"' EXIT
 
 # Long checks run beside others, which leave a processor idle: `beside` keeps what a check prints, and `passed_beside` prints and judges it.
 beside() { # NAME COMMAND..
@@ -75,32 +60,51 @@ beside() { # NAME COMMAND..
 }
 passed_beside() { cat "$room/$1.out" && [ -e "$room/$1.passed" ]; }
 
-# The edits of the rules that a theorem must refuse are tried beside rt ci. The script prints a line for each; its other lines say why it gave up.
-try_edits() { TMPDIR=$proving must-fail-rules/run.sh >"$room/edits.out" 2>&1; }
-refused() { grep "^$1: refused by " "$room/edits.out" || { grep -v ': refused by ' "$room/edits.out" && false; }; }
-if [ -n "$proves" ]; then try_edits & edits=$!; fi
-
 # What later checks need is installed meanwhile. A check installs what it needs itself, too.
 # shellcheck disable=SC2086 # several parts
 beside install tools/install.sh $parts &
 installing=$!
 
-# rt ci counts crates, edits and programs itself: its last line has the counts, and a line above it the names of what failed.
+# rt ci counts crates, edits and programs itself: its last line has the counts, and a line above it the names of what failed. An edit that it
+# cannot apply or read fails nothing there: a line `rt: ok` says how many such there are, and each is a failure here.
+mkdir -p target/log
+said=target/log/proofs
 prove() {
-    if [ -n "$proves" ]; then TMPDIR=$proving rt ci; else TMPDIR=$proving rt check; fi 2>&1 | tee "$log"
+    rt ci 2>&1 | tee "$said"
     status=${PIPESTATUS[0]}
-    good=$(sed -n '$s/^\([0-9][0-9]*\) passed, [0-9][0-9]* failed$/\1/p' "$log")
-    bad=$(sed -n 's/^rt: FAILED://p' "$log")
+    good=$(sed -n '$s/^\([0-9][0-9]*\) passed, [0-9][0-9]* failed$/\1/p' "$said")
+    bad=$(sed -n 's/^rt: FAILED: //p' "$said" | sed -E 's/ \((run|tests)\)/(\1)/g')
     passed=$((passed + ${good:-0}))
     for name in $bad; do fails "rt: $name"; done
-    if [ -n "$proves" ] && [ "${good:-0}" -eq 0 ]; then fails 'rt ci: it gives no count, or 0'; fi
+    if [ "${good:-0}" -eq 0 ]; then fails 'rt ci: it gives no count, or 0'; fi
+    if grep -E '^rt: (ok;.*, [1-9][0-9]* bad|note: bad must-fail edits)' "$said"; then fails 'rt ci: must-fail edits that cannot be applied or read'; fi
     if [ "$status" -ne 0 ] && [ -z "$bad" ]; then fails "rt: exit status $status"; fi
+    if [ "$status" -eq 0 ] && ! grep -q '^rt: ok;.* must-fail edits: [1-9]' "$said"; then fails 'rt ci: it does not say that all is well, or no edit was refused'; fi
 }
-prove
+
+# The same without edits and over what an earlier check kept. The programs are built by running them, whatever they say of no input.
+program() { echo "crates/$1/out/$1"; }
+build_program() { # NAME
+    rm -f "$(program "$1")"
+    (cd "crates/$1" && rt run) </dev/null >"$log" 2>&1
+    [ -x "$(program "$1")" ] || { cat "$log" && return 1; }
+}
+prove_again() {
+    rt all check 2>&1 | tee "$said"
+    [ "${PIPESTATUS[0]}" -eq 0 ] || return
+    for name in run_trace run_road run_yellow run_cabinet; do build_program "$name" || return; done
+}
+if [ -n "$proves" ]; then prove; else check 'rt all check, and the programs' prove_again; fi
+
+# The edits of the rules that a theorem must refuse are tried beside the checks below, on half of the processors. The script prints a line for
+# each; its other lines say why it gave up.
+try_edits() { RT_JOBS=$((($(nproc) + 1) / 2)) must-fail-rules/run.sh >"$room/edits.out" 2>&1; }
+refused() { grep "^$1: refused by " "$room/edits.out" || { grep -v ': refused by ' "$room/edits.out" && false; }; }
+if [ -n "$proves" ]; then try_edits & edits=$!; fi
 
 # The proved trace program and the independent model's, both run here, print for each example the trace that is kept with it, and the
 # same in every way a trace can end.
-proved=./target/bin/run_trace
+proved=$(program run_trace)
 model=./rust/target/release/trace
 build_model() { (cd rust && cargo build --quiet --release --offline -p trace); }
 same_trace() (
@@ -115,18 +119,21 @@ for input in examples/*/stdin*.bin; do
     trace=$(dirname "$input")/$(basename "$input" .bin | sed 's/^stdin/trace/').txt
     check "$trace" same_trace "$input" "$trace"
 done
-same_table() { ./target/bin/run_road <"$1" | cmp - "$2"; }
+same_table() { "$(program run_road)" <"$1" | cmp - "$2"; }
 for input in examples/*/road*.bin; do
     table=$(dirname "$input")/$(basename "$input" .bin | sed 's/^road/table/').txt
     check "$table" same_table "$input" "$table"
 done
 check 'endings of a trace' python3 examples/endings.py "$proved" "$model"
 
-# The lines of the table of yellow times in the source are those that the generator computes.
-yellow_lines() { sed -n '/^const YELLOW/,/^];/{//!p}' crates/sheet_yellow/src/lib.rt; }
+# The entries of the table of yellow times in the source, one on a line, are those that the generator computes.
+yellow_lines() {
+    sed -n '/^const YELLOW/,/^];/{//!p}' crates/sheet_yellow/src/lib.rt |
+        awk '/\/\// { print; next } { n = split($0, entry, /[, ]+/); for (i = 1; i <= n; i++) if (entry[i] != "") print "    " entry[i] "," }'
+}
 same_yellow() (
     set -o pipefail
-    ./target/bin/run_yellow | cmp - <(yellow_lines)
+    "$(program run_yellow)" | cmp - <(yellow_lines)
 )
 check 'table of yellow times as generated' same_yellow
 
@@ -135,7 +142,7 @@ same_reads() { python3 vectors/make_reads.py "$log" && [ -s "$log" ] && cmp "$lo
 check 'vectors/make_reads.py' same_reads
 
 # The static library. Its module for other processors is caught while it is made.
-check 'rt staticlib willowera, and its module' python3 targets/module.py
+check 'the static library (tools/library.sh), and its module' python3 targets/module.py
 check 'verdicts as docs/TRUSTED.md explains them' python3 docs/trusted.py --verdicts
 wait "$installing"
 check 'packages (tools/install.sh)' passed_beside install
@@ -185,7 +192,7 @@ check 'the longest waits' build_longest
 check 'longest waits driven and replayed' python3 examples/longest.py ./rust/target/release/longest "$proved" "$model"
 
 # The lists of calls for the proved program over a slice of records and for the model's.
-check 'lists of cabinet calls' python3 vectors/cabinet_lists.py ./target/bin/run_cabinet ./rust/target/release/cabinet
+check 'lists of cabinet calls' python3 vectors/cabinet_lists.py "$(program run_cabinet)" ./rust/target/release/cabinet
 
 # Lines for the panel: the vectors are those that the model in Python makes, and the library and the model in rust/ tell the same lines.
 same_whys() { python3 vectors/make_why.py "$log" && [ -s "$log" ] && cmp "$log" vectors/whys; }

@@ -15,7 +15,7 @@ The rules. In backticks:
  1. `a/b` is a path: from the document's folder, the repository, crates/ or a crate that the section names. The ending .antt or .rt, and the
     folder src, specs or proofs of a crate, may be left out. `crate/label` is a must-fail edit, and
     `crate/File.name` a definition or theorem of that crate. `*` stands for any name, and so do NAME,
-    LABEL, FILE, MODULE and FUNCTION. `name/` alone is a folder of that name anywhere. A path in target/ is not checked, since it is built; a
+    LABEL, FILE, MODULE and FUNCTION. `name/` alone is a folder of that name anywhere. A path in target/ or in the out/ of a crate is not checked, since it is built; a
     word whose parts have fewer than three letters, as km/h, is no path.
  2. `name.ext` is a file of that name anywhere in the repository, if ext is the ending of one of its files.
  3. `crate::item`, `crate::module::item`: a function, type or constant in src/. The crate may be left out if the section names it, and it may
@@ -23,14 +23,14 @@ The rules. In backticks:
  4. `File.name`: a definition of File.antt in specs/ or proofs/, or a field of the type File; in `rules`, in `laws` or in a crate
     that the section names.
  5. `willowera_name`: an exported function, in each of the three places of rule 15; or a function of another header in include/.
- 6. `snake_case`: a crate, a must-fail edit, an example, a package of rust/, or something declared in the code or in a file of the document's folder. In a document beside .edit
+ 6. `snake_case`: a crate, a must-fail edit, an example, a package of rust/, or something declared in the code, in specs/ or in a file of the document's folder. In a document beside .edit
     files: an edit of that folder, a crate or a function. `prefix_` and `prefix_*`: at least one of these begins with it. C types (`_t`) are
     not checked.
- 7. `camelCase`, `Capital`: a definition, a type, a variant, a field or a file of any crate, or a name that a crate takes from the libraries.
+ 7. `Capital`, `camelCase`: a definition, a type, a variant, a field or a file of any crate, or a name that a crate takes from the libraries.
  8. `kebab-case`: a theorem, a folder, a word of a site's text (in quotes in examples/build.py or workbench/site), or a word of a script in targets/.
  9. `WILLOWERA_NAME`: it stands in a header of include/ or in rust/.
 10. `word`, of small letters alone: it occurs in the code of a crate or of rust/ outside comments, or in a script or a text of the repository.
-11. Of several words in one pair of backticks, those after `rt check`, `rt dev` and the like are crates, one after `cargo .. -p` is a package
+11. Of several words in one pair of backticks, those after `rt ci`, `rt must-fail` and the like are crates, one after `cargo .. -p` is a package
     of rust/, a path that begins with a folder of the repository must exist, `a::b` is checked as in 3, and a word with a capital inside it must
     occur in the code. In a code block only crates, packages and paths are checked.
 12. Anything else is no reference: a word with other signs, a number, capitals alone.
@@ -44,7 +44,7 @@ Links:
 The section of a name runs from the heading above it to the next one. It names a crate if the crate's name is in backticks in it, alone or in a
 path, or in the target of a link.
 
-15. The library (crates/willowera), the header and the Rust package declare the same exported functions.
+15. The library (crates/willowera_c), the header and the Rust package declare the same exported functions.
 """
 import fnmatch
 import os
@@ -55,7 +55,7 @@ from collections import defaultdict, namedtuple
 ROOT = os.path.dirname(os.path.dirname(os.path.abspath(__file__)))
 LINKS_ONLY = 'docs/changes/'
 PLACEHOLDERS = ('NAME', 'LABEL', 'FILE', 'MODULE', 'FUNCTION')
-CRATE_COMMANDS = r'\brt (?:check|dev|must-fail|staticlib|try|goals|mir)((?: +[a-z_][a-z0-9_]*)+)'
+CRATE_COMMANDS = r'\brt (?:ci|check|must-fail|lib|run|test|try)((?: +[a-z_][a-z0-9_]*)+)'
 
 SNAKE = re.compile(r'[a-z][a-z0-9]*(?:_[a-z0-9]+)+\Z')
 PREFIX = re.compile(r'([a-z][a-z0-9]*(?:_[a-z0-9]+)*_)\*?\Z')
@@ -91,7 +91,7 @@ def declared_in_antt(text):
     record = r'(?m)^(?:  ){0,3}(?:pub\s+)?(?:record|data)\s+([^\s:(){}]+)'
     for name in re.findall(plain, text) + re.findall(record, text):
         names.add(name)
-        names.update(part for part in name.split('_') if part)
+        names.update(part for part in name.split('◌') if part)
     return names
 
 
@@ -112,7 +112,7 @@ class Tree:
         self.root = root
         self.files, self.folders = [], ['']
         for folder, folders, files in os.walk(root):
-            folders[:] = sorted(d for d in folders if d not in ('target', '.git', '__pycache__'))
+            folders[:] = sorted(d for d in folders if d not in ('target', 'out', '.git', '__pycache__'))
             here = os.path.relpath(folder, root)
             here = '' if here == '.' else here + '/'
             self.folders += [here + d for d in folders]
@@ -160,7 +160,7 @@ class Tree:
         sources = lambda folder: ''.join(self.text(f) for f in self.declared if f.startswith(folder))
         self.exports = {
             'include/willowera.h': set(re.findall(r'\b(willowera_\w+)\s*\(', re.sub(r'(?s)/\*.*?\*/', '', header))),
-            'crates/willowera/src': set(re.findall(r'pub extern "C" fn (willowera_\w+)', sources('crates/willowera/src/'))),
+            'crates/willowera_c/src': set(re.findall(r'pub extern "C" fn (willowera_\w+)', sources('crates/willowera_c/src/'))),
             'rust/willowera/src': set(re.findall(r'pub fn (willowera_\w+)', sources('rust/willowera/src/'))),
         }
         self.capitals = set(re.findall(r'WILLOWERA_[A-Z0-9_]+', header + beside + sources('rust/')))
@@ -196,7 +196,7 @@ def find_path(tree, word, folder, scope):
     path = word.rstrip('/')
     for placeholder in PLACEHOLDERS:
         path = re.sub(rf'\b{placeholder}\b', '*', path)
-    if path in ('target', './target') or path.startswith(('target/', './target/')):
+    if path in ('target', './target') or path.startswith(('target/', './target/')) or re.match(r'(?:\./)?crates/(?:\w+|\*)/out\b', path):
         return None
     if '/' not in path and any(os.path.basename(f) == path for f in tree.folders):
         return None
@@ -291,7 +291,7 @@ def find_word(tree, word, folder, scope):
         if word.endswith('_t'):
             return None
         if word.startswith('willowera_'):
-            if word in tree.beside:
+            if word in tree.beside or word in tree.crates:
                 return None
             missing = [where for where, names in tree.exports.items() if word not in names]
             return 'an exported function in ' + ' and '.join(missing) if missing else None
@@ -478,7 +478,7 @@ def check_exports(exports):
 SELF_TEST = '''# Title
 
 Right: [a part](#title), [`{definition}`](../{spec}), `{folder}`, `{file}.{definition}`, `{crate}::{function}`, `{crate}::{module}::{function}`, [`{crate}::{function}`](../{source}), `{edit_crate}/{label}`,
-`crates/NAME/must-fail/LABEL.edit`, `{exported}`, `{definition}`, `{type}::{variant}`, `{theorem}`, `size_t`, `km/h`, `--check`, `rt check {crate}`, `requires`.
+`crates/NAME/must-fail/LABEL.edit`, `{exported}`, `{definition}`, `{type}::{variant}`, `{theorem}`, `size_t`, `km/h`, `--check`, `rt ci {crate}`, `requires`.
 
 @[missing page](no-such-page.md)
 @[missing heading](#no-such-heading)
@@ -501,11 +501,11 @@ Right: [a part](#title), [`{definition}`](../{spec}), `{folder}`, `{file}.{defin
 @`no-such-law`
 @`nosuchword`
 @`cargo run -p nosuchpackage`
-@`rt check no_such_crate`
+@`rt ci no_such_crate`
 @`examples/no_such_script.sh part`
 
-    rt dev {crate}
-@   rt dev no_such_crate
+    rt must-fail {crate}
+@   rt must-fail no_such_crate
 @   python3 docs/no_such_script.py
 '''
 

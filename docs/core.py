@@ -18,7 +18,7 @@ A definition is
  - the contract of a function in src/: its lines up to the body.
 
 It reaches what its words mean. A word means what its file defines or takes by a `use` line; a line `pub use` and a renaming by `as` are followed
-to the definition itself, and a variant means its type. Fields, as in `s .core` and `record { core = s }`, are no words. A bound name that is also
+to the definition itself, and a variant means its type. Fields, as in `s.core` and `record { core = s }`, are no words. A bound name that is also
 the name of a definition counts as that: rather too much than too little. Names of the prover's libraries are counted, not followed.
 
 These are mistakes, so that nothing is left out because it was not understood: a line in none of the forms above, a name in a `use` line that
@@ -36,7 +36,7 @@ ROOT = os.path.dirname(os.path.dirname(os.path.abspath(__file__)))
 PAGE = 'docs/TRUSTED.md'
 BEGIN, END = '<!-- core -->', '<!-- end of the core -->'
 
-EXPORTS = 'crates/willowera/src/lib.rt'
+EXPORTS = 'crates/willowera_c/src/lib.rt'
 BOARD = 'crates/proof_board/specs/BoardRuns.antt'
 
 # The statements of each demand over bytes: what it says, and their files and names.
@@ -73,18 +73,18 @@ MACHINE_TYPES = {'bool', 'u8', 'u16', 'u32', 'u64', 'usize', 'i8', 'i16', 'i32',
 
 def words_of(text):
     """The words of a definition, without the fields of a record's value and of a projection."""
-    return re.findall(r'[^\s(){};,."⌜⌝]+', re.sub(r'([{;]\s*)[^\s(){};,.]+ = |\s\.[^\s(){};,.]+|"[^"]*"', r'\1 ', text))
+    return re.findall(r'[^\s(){};,."]+', re.sub(r'([{;]\s*)[^\s(){};,.]+ = |(?<=\S)\.[^\s(){};,.]+|"[^"]*"', r'\1 ', text))
 
 
 def fields_in(text):
     """The fields that a definition names."""
-    return set(re.findall(r'(?<=\s)\.([^\s(){};,.]+)', text)) | {f for inner in re.findall(r'\brecord \{([^{}]*)', text)
+    return set(re.findall(r'(?<=\S)\.([^\s(){};,.]+)', text)) | {f for inner in re.findall(r'\brecord \{([^{}]*)', text)
                                                                for f in re.findall(r'(?:^|;)\s*([^\s(){};,.]+) = ', inner)}
 
 
 def parts_of(name):
-    """The words of a name with gaps for its arguments: `if`, `then` and `else` of `if_then_else_`."""
-    return [part for part in name.split('_') if part]
+    """The words of a name with gaps for its arguments: `if`, `then` and `else` of `if◌then◌else◌`."""
+    return [part for part in name.split('◌') if part]
 
 
 def grouped(number):
@@ -112,7 +112,7 @@ def comments(lines, numbers, sign):
 
 
 def source_of(crate, rest):
-    """The file behind `Rattle·crate.specs.File` or `Rattle·crate.specs.declared.module.Type`, and the type."""
+    """The file behind `Rattle.crate.specs.File` or `Rattle.crate.specs.declared.module.Type`, and the type."""
     parts = rest.split('.')
     if parts[0] == 'declared':
         module, kind = parts[1:3] if parts[1][0].islower() else ('lib', parts[1])
@@ -123,8 +123,8 @@ def source_of(crate, rest):
 def taken_by(line):
     """What a `use` line takes, by its local names, or None if it is in another form."""
     m = re.fullmatch(r'((?:pub |ghost )?)use ([^{}]+)\.\{([^{}]*)\};?', line)
-    source = m and re.fullmatch(r'Rattle·(\w+?)(?:·specs)?\.specs\.([\w.-]+)', m.group(2))
-    if not m or not source and not re.match(r'(Prim|mathlib|lib)\.', m.group(2)):
+    source = m and re.fullmatch(r'Rattle\.(?!std\.)(\w+)\.specs\.([\w.]+)', m.group(2))
+    if not m or not source and not re.match(r'(Prim|mathlib|lib|Rattle\.std\.(?:specs|proofs\.lemmas))\.', m.group(2)):
         return None
     where = source_of(*source.groups()) if source else (m.group(2), None)
     pairs = [re.split(r' as ', name.strip()) for name in m.group(3).split(',')]
@@ -169,7 +169,7 @@ def parsed_spec(path, text):
             parts = [part for part in (around, fixed.get(name, []), own) if part]
             remarks = [n for part in parts for n in comments(lines, part, '--')]
             found[name] = Definition(path, name, sum(parts, []), remarks, '\n'.join(code(lines[n], '--') for part in parts for n in part), [], [])
-        elif name and re.search(r'\s=\s', here) and (words_of(here)[0] == name or set(parts_of(name)) <= set(words_of(here)) and '_' in name):
+        elif name and re.search(r'\s=\s', here) and (words_of(here)[0] == name or set(parts_of(name)) <= set(words_of(here)) and '◌' in name):
             old = found[name]
             found[name] = old._replace(lines=old.lines + own, remarks=old.remarks + comments(lines, own, '--'), text=f'{old.text}\n{here}')
         else:
@@ -182,8 +182,9 @@ def parsed_source(path, text):
     """A file of src/: its types, and the contracts of its functions."""
     lines, found, takes, wrong = text.split('\n'), {}, {}, []
     bare = [code(line, '//') for line in lines]
-    for crate, module, name in re.findall(r'(?m)^use (\w+)::(?:(\w+)::)?([A-Z]\w*);$', text):
-        takes[name] = Taken(f'crates/{path.split("/")[1] if crate == "crate" else crate}/src/{module or "lib"}.rt', None, name, False)
+    for crate, module, names in re.findall(r'(?m)^use (\w+)::(?:(\w+)::)?(\w+|\{[^{}]*\});$', text):
+        for name in re.findall(r'\b[A-Z]\w*[a-z]\w*', names):
+            takes[name] = Taken(f'crates/{path.split("/")[1] if crate == "crate" else crate}/src/{module or "lib"}.rt', None, name, False)
     for first, line in enumerate(bare):
         kind, function = re.match(r'(?:pub )?(struct|enum) (\w+) \{$', line), re.match(r' *(?:pub )?(?:extern "C" )?fn (\w+)\(', line)
         if line.startswith('ghost use '):
@@ -285,7 +286,7 @@ class Tree:
                 if target not in ways and '/' in target[0]:
                     ways[target] = (path, name)
                     waiting.append(target)
-        fields = {field for d in found.values() for field in d.fields} | {'0', '1', 'entry', 'exit'}
+        fields = {field for d in found.values() for field in d.fields} | {'0', '1', 'now', 'old', 'new'}
         for d in found.values():
             wrong += [f'{d.path}: {d.name}: no type of the core has the field {field}' for field in sorted(fields_in(d.text) - fields)]
         for path in dict.fromkeys(path for path, _ in ways):
@@ -435,30 +436,30 @@ pub struct Other {
 ''',
     'crates/sample/src/lib.rt': '''// A contract.
 use sample::kinds::Size;
-ghost use mathlib.Core.Path.{_≡_};
-ghost use Rattle·sample.specs.Top.{sizeFor as wanted};
+ghost use Rattle.std.specs.Prelude.{◌≡◌};
+ghost use Rattle.sample.specs.Top.{size_for as wanted};
 
-#[no_mangle]
+#[unsafe(no_mangle)]
 pub fn size(kind: u8) -> Size
-    ensures { λ r. ⌜ r ≡ wanted kind ⌝ }
+    ensures { result ≡ wanted kind }
 {
     other(kind)
 }
 ''',
     'crates/sample/specs/Types.antt': '''-- Names only.
-pub use Rattle·sample·specs.specs.declared.kinds.Kind.{Kind}
-pub use Rattle·sample·specs.specs.declared.kinds.Kind.the-variants.{Plain, Sized}
-pub use Rattle·sample·specs.specs.declared.kinds.Size.{Size}
-pub use Rattle·sample·specs.specs.declared.kinds.Other.{Other}
+pub use Rattle.sample.specs.declared.kinds.Kind.{Kind}
+pub use Rattle.sample.specs.declared.kinds.Kind.TheVariants.{Plain, Sized}
+pub use Rattle.sample.specs.declared.kinds.Size.{Size}
+pub use Rattle.sample.specs.declared.kinds.Other.{Other}
 ''',
     'crates/sample/specs/Base.antt': '''-- Forms.
-use Prim.Native.Nat.{ℕ, _+_}
-use mathlib.Core.Bool.{Bool, true, false}
-use Rattle·sample·specs.specs.Types.{Kind, Plain, Size, Other}
+use Rattle.std.specs.Prelude.{ℕ, ◌+◌}
+use Rattle.std.specs.Prelude.{Bool, true, false}
+use Rattle.sample.specs.Types.{Kind, Plain, Size, Other}
 
 -- a choice
-infix 6 _or_else_
-abbrev pub _or_else_ : Bool → ℕ → ℕ → ℕ
+infix 6 ◌or◌else◌
+abbrev pub ◌or◌else◌ : Bool → ℕ → ℕ → ℕ
 true or a else b = a
 false or a else b = b
 
@@ -468,7 +469,7 @@ module _ (n : ℕ) (extra : Extra) where
   plus m =
       n
       -- and what is extra
-      + extra .more + m
+      + extra.more + m
 
   unfoldable pub twice : ℕ
   twice = plus n
@@ -486,25 +487,25 @@ unfoldable pub given : Given → Bool
 given nothing = false
 given (one n) = true
 
-unfoldable pub isPlain : Kind → Bool
-isPlain Plain = true
-isPlain kind = false
+unfoldable pub is_plain : Kind → Bool
+is_plain Plain = true
+is_plain kind = false
 
 unfoldable pub unused : Other → ℕ
-unused other = other .low
+unused other = other.low
 ''',
     'crates/sample/specs/Top.antt': '''-- The statement.
-use Prim.Native.Nat.{ℕ}
-use Rattle·sample·specs.specs.Types.{Size}
-use Rattle·sample·specs.specs.Base.{_or_else_, plus, given, one, Extra}
+use Rattle.std.specs.Prelude.{ℕ}
+use Rattle.sample.specs.Types.{Size}
+use Rattle.sample.specs.Base.{◌or◌else◌, plus, given, one, Extra}
 
-unfoldable pub sizeFor : ℕ → Size
-sizeFor kind =
+unfoldable pub size_for : ℕ → Size
+size_for kind =
     record { low = given (one kind) or plus kind (record { more = 1; unused = 0 }) 2 else 0; parts = [] }
 ''',
 }
 SAMPLE_STATEMENT = ('crates/sample/src/lib.rt', 'size')
-SAMPLE_CORE = {'size': 2, 'Size': 4, 'Part': 3, 'sizeFor': 3, '_or_else_': 4, 'plus': 5, 'Extra': 3, 'given': 3, 'Given': 3}
+SAMPLE_CORE = {'size': 2, 'Size': 4, 'Part': 3, 'size_for': 3, '◌or◌else◌': 4, 'plus': 5, 'Extra': 3, 'given': 3, 'Given': 3}
 
 
 def all_reported(name, count, failures):
@@ -529,16 +530,16 @@ def self_test():
 
     mistakes = {
         'a definition reached by a new word': (base, 'given nothing = false', 'given nothing = unused', 'unused: 2 lines'),
-        'a type reached by a variant': (base, 'given nothing = false', 'given nothing = isPlain Plain', 'Kind: 5 lines'),
+        'a type reached by a variant': (base, 'given nothing = false', 'given nothing = is_plain Plain', 'Kind: 5 lines'),
         'a longer definition': (base, 'given nothing = false', 'given nothing =\n    false', 'given: 4 lines'),
         'a new field': (kinds, 'pub high: u8,', 'pub high: u8,\n    pub low: u8,', 'Part: 4 lines'),
         'a field of a type that is not found': (kinds, 'pub high: u8', 'pub high: Gone', 'nothing has the name Gone'),
-        'a field that no type has': (base, 'extra .more', 'extra .most', 'no type of the core has the field most'),
-        'a name that is not passed on': (types, 'pub use Rattle·sample·specs.specs.declared.kinds.Size', 'use Rattle·sample.specs.declared.kinds.Size', 'takes Size'),
+        'a field that no type has': (base, 'extra.more', 'extra.most', 'no type of the core has the field most'),
+        'a name that is not passed on': (types, 'pub use Rattle.sample.specs.declared.kinds.Size', 'use Rattle.sample.specs.declared.kinds.Size', 'takes Size'),
         'a name that is gone': (base, 'pub given', 'pub taken', 'takes given'),
         'a variant that is gone': (kinds, 'Plain,', 'Simple,', 'takes Plain'),
         'a file that is gone': (top, 'specs.Base.', 'specs.Gone.', 'Gone.antt does not have'),
-        'a `use` line in another form': (top, 'use Rattle·sample·specs.specs.Types.{Size}', 'use Rattle·sample·specs.specs.Types', 'not understood: use'),
+        'a `use` line in another form': (top, 'use Rattle.sample.specs.Types.{Size}', 'use Rattle.sample.specs.Types', 'not understood: use'),
         'a definition in another form': (base, 'unfoldable pub given', 'hidden pub given', 'not understood: hidden'),
         'an equation of another name': (base, 'twice = plus', 'thrice = plus', 'not understood: thrice'),
     }

@@ -8,9 +8,9 @@
 The outcome of a function is its answer and what it leaves in each `&mut` parameter. Every `pub fn` in crates/*/src counts, exported or not. A part of the
 outcome is equated if a conjunct of an `ensures` is an equation with this part alone, or a record of such parts, on its left side:
 
-    r ≡ ..    now r ≡ ..    now (x .exit) ≡ ..    record { answer = r; state = now (x .exit) } ≡ ..
+    result ≡ ..    result.now ≡ ..    x.new ≡ .. (or x.exit.now ≡ ..)    record { answer = result; state = x.new } ≡ ..
 
-and nothing of the outcome on its right side. An answer that is a struct is also equated if each of its fields is, as in `r .verdict ≡ ..`. An equation
+and nothing of the outcome on its right side. An answer that is a struct is also equated if each of its fields is, as in `result.verdict ≡ ..`. An equation
 behind a premise or a quantifier does not count.
 
 The other parts are open. A row of the table stands for functions whose contracts go by the same means: a relation (a record or an `abbrev` of specs/) with its
@@ -30,12 +30,12 @@ BEGIN, END = '<!-- open outcomes -->', '<!-- end of the open outcomes -->'
 TITLES = ['By', 'Functions', 'It fixes', 'It leaves open']
 PREMISE, NOTHING = 'a premise', 'nothing'
 
-# `outcome`: its parts, as a contract names them. `facts`: (the name of the answer, fact) of each `ensures`.
+# `outcome`: its parts, as a contract names them. `facts`: the fact of each `ensures`.
 Function = namedtuple('Function', 'path name label answer outcome facts')
 # `parts`: those that are open. `by`: the means, as the table has them.
 Open = namedtuple('Open', 'function parts by')
 
-OPENING, CLOSING = '([{⌜', ')]}⌝'
+OPENING, CLOSING = '([{', ')]}'
 
 
 # ── Contracts ──
@@ -73,10 +73,9 @@ def bare(text):
 
 
 def fact_of(clause):
-    """The name of the answer and the fact of a clause `λ r. ⌜ fact ⌝`, or None."""
-    m = re.match(r'\s*λ (\w+)\. (?:do )?⌜', clause)
-    last = m and close_of(clause, m.end() - 1)
-    return (m.group(1), clause[m.end():last]) if m and not clause[last + 1:].strip() else None
+    """The fact of a clause, or None of one that speaks of memory."""
+    fact = bare(clause)
+    return fact if fact and not re.search(r'[⌜⌝∗]|-∗|[∀∃∧∨→]ₛ', fact) else None
 
 
 def functions_in(path, text):
@@ -109,30 +108,29 @@ def conjuncts(fact):
     return [fact] if len(split(fact, '→')) > 1 or len(parts) == 1 else [c for part in parts for c in conjuncts(part)]
 
 
-def part_of(term, answer):
-    """The part of the outcome that a term is: 'answer', 'answer .field', or a parameter; or None."""
+def part_of(term):
+    """The part of the outcome that a term is: 'answer', 'answer.field', or a parameter; or None."""
     term = bare(term)
-    m = re.fullmatch(r'now \(?(\w+) \.exit\)?', term)
+    m = re.fullmatch(r'(\w+)\.(?:new|exit\.now)', term)
     if m:
         return m.group(1)
-    m = re.fullmatch(rf'(?:now )?{answer}( \.\w+)?', term) if answer != '_' else None
+    m = re.fullmatch(r'result(?:\.now)?(\.\w+)?', term)
     return 'answer' + (m.group(1) or '') if m else None
 
 
-def parts_in(term, answer):
+def parts_in(term):
     """The parts of the outcome that an equation with this term on its left side equates."""
     term = bare(term)
     if re.match(r'record \{', term) and term.endswith('}'):
         inner = term[term.index('{') + 1:-1]
-        return [p for field in split(inner, ';') if field for p in parts_in(field.partition(' = ')[2], answer)]
-    part = part_of(term, answer)
+        return [p for field in split(inner, ';') if field for p in parts_in(field.partition(' = ')[2])]
+    part = part_of(term)
     return [part] if part else []
 
 
-def speaks_of(text, part, answer):
+def speaks_of(text, part):
     """Whether a text names a part of the outcome."""
-    word = rf'\b{part} \.exit' if part != 'answer' else rf'(?<![\w.]){answer}(?![\w-])'
-    return (part != 'answer' or answer != '_') and bool(re.search(word, text))
+    return bool(re.search(rf'\b{part}\.(?:new|exit)\b' if part != 'answer' else r"(?<![\w.])result(?![\w'-])", text))
 
 
 # ── What a contract leaves open ──
@@ -141,11 +139,11 @@ def speaks_of(text, part, answer):
 def equated(function):
     """The parts of the outcome that the contract equates."""
     found = set()
-    for answer, fact in function.facts:
+    for fact in function.facts:
         for conjunct in conjuncts(fact):
             sides = split(conjunct, '≡')
-            if len(split(conjunct, '→')) == 1 and len(sides) == 2 and not any(speaks_of(sides[1], part, answer) for part in function.outcome):
-                found |= set(parts_in(sides[0], answer))
+            if len(split(conjunct, '→')) == 1 and len(sides) == 2 and not any(speaks_of(sides[1], part) for part in function.outcome):
+                found |= set(parts_in(sides[0]))
     return found
 
 
@@ -159,9 +157,9 @@ def fields_of(tree, path, name):
 def means(tree, function, parts):
     """By what the contract says something of these parts, as the table has it."""
     found = []
-    for answer, fact in function.facts:
+    for fact in function.facts:
         for conjunct in conjuncts(fact):
-            if not any(speaks_of(conjunct, part, answer) for part in parts):
+            if not any(speaks_of(conjunct, part) for part in parts):
                 continue
             relation = re.match(r'[A-Z]\w*', conjunct)
             if len(split(conjunct, '→')) > 1:
@@ -176,7 +174,7 @@ def open_in(tree, function):
     """The function with what it leaves open, or None."""
     done = equated(function)
     fields = fields_of(tree, function.path, function.answer or '')
-    if fields and all(f'answer .{field}' in done for field in fields):
+    if fields and all(f'answer.{field}' in done for field in fields):
         done.add('answer')
     parts = [part for part in function.outcome if part not in done]
     return Open(function, parts, means(tree, function, parts)) if parts else None
@@ -246,17 +244,17 @@ def self_test():
             text = text.replace(old, other, 1)
         return Tree({path: text})
 
-    one = '⌜ r ≡ byteAt (now (s .entry)) i ⌝'
-    last = '× (now (colours .exit) ≡ coloursAfter'
+    one = '{ result ≡ byte_at s.now i }'
+    last = '× (colours.new ≡ colours_after'
     trees = {
-        'an equation dropped from a contract': (changed(exports, (last, '× (length (now (colours .exit)) ≡ coloursAfter')), 'willowera_step leaves open: colours'),
-        'an equation behind a premise': (changed(bytes_, (one, '⌜ (i < 5 → r ≡ byteAt (now (s .entry)) i) ⌝')), 'base_bytes::byte_at leaves open: answer (by a premise)'),
-        'an equation behind a quantifier': (changed(bytes_, (one, '⌜ ((k : ℕ) → r ≡ byteAt (now (s .entry)) i) ⌝')), 'base_bytes::byte_at leaves open'),
-        'an equation of the answer with itself': (changed(bytes_, (one, '⌜ r ≡ r ⌝')), 'base_bytes::byte_at leaves open: answer (by nothing)'),
-        'a relation in the place of an equation': (changed(bytes_, (one, '⌜ SomeByte (now (s .entry)) i r ⌝')), 'base_bytes::byte_at leaves open: answer (by `SomeByte`)'),
-        'a field of an answer without its equation': (changed(lookup, ('× (r .head ≡ headOf', '× (r .head ≤ headOf')), 'read_lookup::find leaves open'),
+        'an equation dropped from a contract': (changed(exports, (last, '× (length colours.new ≡ colours_after')), 'willowera_step leaves open: colours'),
+        'an equation behind a premise': (changed(bytes_, (one, '{ i < 5 → result ≡ byte_at s.now i }')), 'base_bytes::byte_at leaves open: answer (by a premise)'),
+        'an equation behind a quantifier': (changed(bytes_, (one, '{ (k : ℕ) → result ≡ byte_at s.now i }')), 'base_bytes::byte_at leaves open'),
+        'an equation of the answer with itself': (changed(bytes_, (one, '{ result ≡ result }')), 'base_bytes::byte_at leaves open: answer (by nothing)'),
+        'a relation in the place of an equation': (changed(bytes_, (one, '{ SomeByte s.now i result }')), 'base_bytes::byte_at leaves open: answer (by `SomeByte`)'),
+        'a field of an answer without its equation': (changed(lookup, ('× (result.head ≡ head_of', '× (result.head ≤ head_of')), 'read_lookup::find leaves open'),
         'a field taken out of a relation': (changed(cells, ('  pub rest : ', '  -- ')), 'the contract of road_step::road_steps goes by `Further` (`same`, `road`)'),
-        'a contract in another form': (changed(bytes_, (one, '⌜ r ≡ 0 ⌝ ∗ ⌜ r ≡ 0 ⌝')), 'not understood'),
+        'a contract in another form': (changed(bytes_, (one, '{ ⌜ result ≡ 0 ⌝ ∗ ⌜ result ≡ 0 ⌝ }')), 'not understood'),
     }
     function = 'pub fn added(bytes: &mut [u8], lent: &[u8]) -> u8 {\n    bytes[0]\n}\n'
     pages = {

@@ -9,17 +9,18 @@ The prover checks that each theorem in the term of the record has its statement 
 same ones, or whether one is missing. The rules; a report has the file and the line:
 
  1. The file of the record has `use` lines that take from specs/, the record `Promises` without parameters, and nothing else. A field is
-    `pub name : Name`. Its type is a name that a `use` line takes, and its name is the same with a small first letter.
+    `pub the_name : TheName`. Its type is a name that a `use` line takes, and its name is the same in snake case.
  2. Such a name is a statement of the file that it is taken from: `Name : Type n`, without parameters.
  3. The file of the term has `use` lines that take from proofs/, the term `promises : Promises`, and nothing else. It gives each field a
-    theorem that a `use` line takes, whose name is that of the statement in small letters with hyphens.
+    theorem that a `use` line takes, whose name is that of the statement in small letters with hyphens (or with `_`, where the name was so respelled).
  4. In a row of the README's table each statement is a field, and its theorem, as the term has it, is in the same row. Each theorem of the row
     is that of a statement of the row. A statement with parameters is one for a contract: the row has a function. A link names what is meant,
     and not a file. The crates of the row have its theorems and functions, or use a crate that has them.
  5. Each field is in the table once, and the fields are in the order of the table.
  6. A statement in a specs/ folder for which there is a theorem `its-name : ItsName` is a field, unless its file is internal. So nothing that is
     proved as a promise is left out of the record.
- 7. No file in specs/ or src/ of a crate takes anything from proofs/: a definition must not cite a proof.
+ 7. No file in specs/ or src/ of a crate takes anything from a proofs/ folder of this repository: a definition must not cite a proof. (The standard
+    library has definitions in its own, as `sets` in `Rattle.std.proofs.lemmas`.)
 
 A name that two crates have is taken with a word of its crate before it: `Admitted as SheetAdmitted`. `--write` keeps such words and the comments
 above the fields; above a new row of the table it writes the promise up to its first colon, semicolon or full stop.
@@ -38,7 +39,7 @@ README = 'README.md'
 RECORD = 'crates/proof_promises/specs/Promises.antt'
 TERM = 'crates/proof_promises/proofs/Promises.antt'
 CRATES = 'crates.txt'
-OWN = 'use Rattle·proof_promises·specs.specs.Promises.{Promises}'
+OWN = 'use Rattle.proof_promises.specs.Promises.{Promises}'
 TITLES = ['Promise', 'Statement', 'Theorem or contract', 'Crate']
 
 # A statement or a theorem: its file and its name.
@@ -52,8 +53,17 @@ def hyphenated(statement):
     return re.sub(r'(?<=[a-z0-9])(?=[A-Z])|(?<=[a-z])(?=[0-9])', '-', statement).lower()
 
 
-def small(name):
-    return name[0].lower() + name[1:]
+def is_theorem_of(theorem, statement):
+    return theorem.replace('_', '-') == hyphenated(statement)
+
+
+def snake(statement):
+    """PhasesCanBeCalled -> phases_can_be_called, MetIn270 -> met_in270."""
+    return re.sub(r'(?<=[a-z0-9])(?=[A-Z])', '_', statement).lower()
+
+
+def small(text):
+    return text[0].lower() + text[1:]
 
 
 class Tree:
@@ -85,7 +95,7 @@ class Tree:
 
     def used_by(self, crates):
         """Crates, and all that they use."""
-        uses = {name: rest.split() for name, rest in re.findall(r'(?m)^(\w+):(.*)$', self.text(CRATES))}
+        uses = {name: rest.split() for name, rest in re.findall(r'(?m)^(\w+)(?: [a-z]+)?:(.*)$', self.text(CRATES))}
         found = list(crates)
         for crate in found:
             found += [other for other in uses.get(crate, []) if other not in found]
@@ -105,7 +115,7 @@ class Tree:
 
 def taken(line, folder):
     """local name -> what a `use` line takes from a file of this folder, or None if it is another line."""
-    m = re.fullmatch(rf'use Rattle·(\w+?)\.{folder}\.(\w+)\.\{{([^{{}}]*)\}}', line)
+    m = re.fullmatch(rf'use Rattle\.(\w+)\.{folder}\.(\w+)\.\{{([^{{}}]*)\}}', line)
     if not m:
         return None
     pairs = [name.strip().split(' as ') for name in m.group(3).split(',')]
@@ -126,8 +136,8 @@ def promises_of(tree):
         elif head and field and field.group(2) in takes and field.group(1) not in fields:
             statement = takes[field.group(2)]
             fields[field.group(1)] = number, statement
-            if field.group(1) != small(field.group(2)):
-                told(RECORD, number, f'the field {field.group(1)} of {field.group(2)} is not called {small(field.group(2))}')
+            if field.group(1) != snake(field.group(2)):
+                told(RECORD, number, f'the field {field.group(1)} of {field.group(2)} is not called {snake(field.group(2))}')
             if statement.path not in tree.sources or not tree.statements(statement.path).get(statement.name):
                 told(RECORD, number, f'{statement.name} is no statement without parameters of {statement.path}')
         else:
@@ -147,7 +157,7 @@ def promises_of(tree):
             theorems[field.group(1)] = number, theorem
             if field.group(1) not in fields:
                 told(TERM, number, f'no field {field.group(1)} in the record')
-            elif theorem.name != hyphenated(fields[field.group(1)][1].name):
+            elif not is_theorem_of(theorem.name, fields[field.group(1)][1].name):
                 told(TERM, number, f'the theorem of {fields[field.group(1)][1].name} is called {hyphenated(fields[field.group(1)][1].name)}, and this is {theorem.name}')
         elif not (theorems and line == '    }'):
             told(TERM, number, f'neither a `use` line that takes from proofs/, nor a field with a theorem that one takes: {line.strip()}')
@@ -209,7 +219,7 @@ def compared(tree, promises):
             theorem = promises.theorems.get(field, (0, None))[1]
             if field is None:
                 told(f'{statement.name} is no field of the record; `--write` adds it')
-                left = [t for t in left if t.name != hyphenated(statement.name)]
+                left = [t for t in left if not is_theorem_of(t.name, statement.name)]
             elif theorem in left:
                 left.remove(theorem)
             elif theorem:
@@ -238,7 +248,7 @@ def compared(tree, promises):
 def unpromised(tree, promises):
     fields = {statement for _, statement in promises.fields.values()}
     in_table = {statement for row in table_of(tree)[0] for statement in row.statements}
-    theorems = {m for path in tree.folder('proofs') for m in re.findall(r'(?m)^(?:(?:pub|unfoldable|abbrev|opaque) )*([a-z]\S*) : ([A-Z][A-Za-z0-9]*)$', tree.text(path))}
+    theorems = {(name.replace('_', '-'), says) for path in tree.folder('proofs') for name, says in re.findall(r'(?m)^(?:(?:pub|unfoldable|abbrev|opaque) )*([a-z]\S*) : ([A-Z][A-Za-z0-9]*)$', tree.text(path))}
     wrong = []
     for path in tree.folder('specs'):
         if tree.text(path).startswith('-- Internal:') or path == RECORD:
@@ -253,7 +263,7 @@ def unpromised(tree, promises):
 def citing(tree):
     """The lines of specs/ and src/ that take something from proofs/."""
     return [f'{path}:{number}: a definition must not cite a proof: {line.strip()}'
-            for path in tree.folder('specs', 'src') for number, line in tree.lines(path) if re.search(r'[.·]proofs\b', line)]
+            for path in tree.folder('specs', 'src') for number, line in tree.lines(path) if re.search(r'\.proofs\b', re.sub(r'\bRattle\.std\.proofs\.lemmas\.', '', line))]
 
 
 def check(root):
@@ -268,13 +278,13 @@ def check(root):
 
 def written(tree, promises):
     """file -> its text with a field for each statement of the table, and what cannot be written."""
-    crates = re.findall(r'(?m)^(\w+):', tree.text(CRATES))
+    crates = re.findall(r'(?m)^(\w+)(?: [a-z]+)?:', tree.text(CRATES))
     rows, wrong = table_of(tree)
     groups, local = [], {}
     for row in rows:
         group = []
         for statement in row.statements:
-            same = [t for t in row.theorems if t.name == hyphenated(statement.name)]
+            same = [t for t in row.theorems if is_theorem_of(t.name, statement.name)]
             theorem = next((t for t in same if t.path.split('/')[1] == statement.path.split('/')[1]), next(iter(same), None))
             if statement.path not in tree.sources or not tree.statements(statement.path).get(statement.name):
                 continue
@@ -295,7 +305,7 @@ def written(tree, promises):
         for name, called in names:
             files.setdefault(name.path, {})[name.name if called == name.name else f'{name.name} as {called}'] = None
         at = lambda path: (crates.index(path.split('/')[1]), path)
-        return ['use Rattle·{}.{}.{}.{{{}}}'.format(*path[:-5].split('/')[1:], ', '.join(files[path])) for path in sorted(files, key=at)]
+        return ['use Rattle.{}.{}.{}.{{{}}}'.format(*path[:-5].split('/')[1:], ', '.join(files[path])) for path in sorted(files, key=at)]
 
     old = tree.text(RECORD).split('\n')
     above = {}
@@ -306,13 +316,14 @@ def written(tree, promises):
         above[field] = old[first:number - 1]
     head = lambda path: tree.text(path).split('\n')[:next(n for n, line in enumerate(tree.text(path).split('\n')) if line.startswith('use '))]
     record = [*head(RECORD), *uses((s, local[s]) for s, _ in pairs), '', 'pub record Promises : Type 1 where']
-    term = [*head(TERM), *uses((t, hyphenated(local[s])) for s, t in pairs), OWN, '', 'pub promises : Promises', 'promises =', '    record {']
+    called = {theorem: theorem.name if local[statement] == statement.name else hyphenated(local[statement]) for statement, theorem in pairs}
+    term = [*head(TERM), *uses((t, called[t]) for _, t in pairs), OWN, '', 'pub promises : Promises', 'promises =', '    record {']
     for row, group in groups:
-        fields = [small(local[statement]) for statement, _ in group]
+        fields = [snake(local[statement]) for statement, _ in group]
         says = small(re.split(r'[:;.](?: |$)', row.promise)[0])
         record += next((above[field] for field in fields if above.get(field)), [f'  -- {says}'])
         record += [f'  pub {field} : {local[statement]}' for field, (statement, _) in zip(fields, group)]
-        term += [f'      {field} = {hyphenated(local[statement])};' for field, (statement, _) in zip(fields, group)]
+        term += [f'      {field} = {called[theorem]};' for field, (_, theorem) in zip(fields, group)]
     used = sorted({name.path.split('/')[1] for pair in pairs for name in pair}, key=crates.index)
     listed = re.sub(r'(?m)^proof_promises:.*$', f'proof_promises: {" ".join(used)}', tree.text(CRATES))
     return {RECORD: '\n'.join(record) + '\n', TERM: '\n'.join(term) + '\n    }\n', CRATES: listed}, wrong
@@ -356,15 +367,15 @@ def mistakes(tree, promises):
         'a statement taken from a file without it': (RECORD, f'.{statement.path.split("/")[3][:-5]}.', '.NoSuchFile.', f'{statement.name} is no statement without parameters'),
         'a theorem left out of the term': (TERM, given, '', f'the term has no theorem for the field {field}'),
         'a theorem swapped in the term': (TERM, given, given.replace(theorem.name, promises.theorems[other][1].name), f'the theorem of {statement.name} is called'),
-        'a field of the term that is not one': (TERM, given, given.replace(field, 'noSuchField'), 'no field noSuchField'),
+        'a field of the term that is not one': (TERM, given, given.replace(field, 'no_such_field'), 'no field no_such_field'),
         'a proof in the place of a theorem': (TERM, given, given.replace(f'= {theorem.name}', '= refl'), 'neither a `use` line'),
         'a theorem taken from specs': (TERM, f'.proofs.{theorem.path.split("/")[3][:-5]}.', f'.specs.{theorem.path.split("/")[3][:-5]}.', 'neither a `use` line'),
         'a term with a premise': (TERM, 'pub promises : Promises', 'pub promises : ⊥ → Promises', 'neither a `use` line'),
         'a statement that has parameters': (statement.path, f' {statement.name} : Type', f' {statement.name} : ⊥ → Type', f'{statement.name} is no statement without parameters'),
         'a new statement with a theorem': (statement.path, f' {statement.name} : Type', f' {statement.name}New : Type 0\n{statement.name}New = ⊥\nabbrev {statement.name} : Type',
                                            f'{statement.name}New is proved, and neither'),
-        'a definition that cites a proof': (spec, '\nuse ', '\nuse Rattle·laws.proofs.Sums.{sum-within}\nuse ', f'{spec}:'),
-        'a contract that cites a proof': (source, '\nghost use ', '\nghost use Rattle·laws.proofs.Sums.{sum-within};\nghost use ', f'{source}:'),
+        'a definition that cites a proof': (spec, '\nuse ', '\nuse Rattle.laws.proofs.Sums.{sum-within}\nuse ', f'{spec}:'),
+        'a contract that cites a proof': (source, '\nghost use ', '\nghost use Rattle.laws.proofs.Sums.{sum-within};\nghost use ', f'{source}:'),
     }
 
 
@@ -396,7 +407,7 @@ def self_test():
         # what `--write` makes of a record without a field
         for path in (RECORD, TERM):
             with open(os.path.join(root, path), 'w', encoding='utf-8') as f:
-                f.write(re.sub(r'(?m)^ +(?:pub )?boardDemandThree .*\n', '', tree.text(path)))
+                f.write(re.sub(r'(?m)^ +(?:pub )?board_demand_three .*\n', '', tree.text(path)))
         wrong = Tree(root)
         if written(wrong, promises_of(wrong))[0] != {path: tree.text(path) for path in (RECORD, TERM, CRATES)}:
             failures.append('what is left out of the record and --write does not add')

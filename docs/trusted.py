@@ -22,11 +22,14 @@ the line below the mark `<!-- totals -->`, and the tables of the core between th
 
 The last line of a check is its verdict, `logic=proved` and other words. Each word is on the page in backticks, as it is or up to its `=`. The programs with
 `axioms=` are those of the table behind the mark `<!-- axioms -->`, with the same numbers. A library says nothing of axioms, but a static library does: the last
-verdict of willowera must be that of `rt staticlib`.
+verdict of willowera_c must be that of tools/library.sh, which builds it. The other verdicts are in target/log/proofs, what the last `rt ci` said (or `rt all check`).
+It prints none of a crate that an earlier run proved, with the same files, and says so. `rt check` is then asked for the verdict of a program, and a library has none
+to compare: `rt ci` itself refuses a verdict with a word that it does not know.
 """
 import difflib
 import os
 import re
+import subprocess
 import sys
 
 import core
@@ -35,7 +38,8 @@ from core import PAGE, ROOT, grouped
 TOTALS = '<!-- totals -->'
 AXIOMS = '<!-- axioms -->'
 LOGS = 'target/log'
-STATIC = 'willowera'
+STATIC = 'willowera_c'
+KEPT = 'proved by an earlier run'
 
 
 def read(path):
@@ -46,7 +50,7 @@ def read(path):
 def files_in(folder, ending):
     found = []
     for here, folders, files in os.walk(os.path.join(ROOT, folder)):
-        folders[:] = [f for f in folders if f not in ('target', '.git')]
+        folders[:] = [f for f in folders if f not in ('target', 'out', '.git')]
         found += [os.path.relpath(os.path.join(here, f), ROOT) for f in files if f.endswith(ending)]
     return sorted(found)
 
@@ -160,7 +164,7 @@ def filled(page, tree):
 def taken(text):
     """(file, names) of each line that takes names from specs/ or from the types, or passes them on."""
     return [(core.source_of(crate, rest)[0], {n.split(' as ')[-1].strip() for n in names.split(',')})
-            for crate, rest, names in re.findall(r'(?m)^(?:ghost |pub )?use Rattle·(\w+?)(?:·specs)?\.specs\.([\w.-]+)\.\{([^}]*)\}', text)]
+            for crate, rest, names in re.findall(r'(?m)^(?:ghost |pub )?use Rattle\.(?!std\.)(\w+)\.specs\.([\w.]+)\.\{([^}]*)\}', text)]
 
 
 def missing(page):
@@ -176,15 +180,16 @@ def missing(page):
             wrong += [f'{path}: it takes names from {source}, which {PAGE} does not list' for source, _ in taken(read(path)) if source not in listed]
     promised = set()
     for number, titles, cells, path in rows_of(page):
-        for function in functions_of(titles, cells):
-            text = (contract(path, function) if os.path.exists(os.path.join(ROOT, path)) else None) or ''
-            words = set(re.findall(r"[A-Za-z][\w-]*", text))
+        for function in functions_of(titles, cells) if os.path.exists(os.path.join(ROOT, path)) else []:
+            text = contract(path, function) or ''
+            words = set(re.findall(r"[A-Za-z][\w'-]*", text))
             promised.add(function)
             source = read(path)
             cited = [f for f, names in taken(source) if names & words]
-            cited += [f'crates/{crate}/src/{module}.rt' for crate, module, name in re.findall(r'(?m)^use (\w+)::(\w+)::([A-Z]\w+);', source) if name in words]
+            cited += [f'crates/{crate}/src/{module}.rt' for crate, module, names in re.findall(r'(?m)^use (\w+)::(\w+)::(\w+|\{[^{}]*\});', source)
+                      if words & set(re.findall(r'\b[A-Z]\w*[a-z]\w*', names))]
             wrong += [f'{path}: the contract of {function} takes names from {f}, which {PAGE} does not list' for f in cited if f not in listed]
-    for path in files_in('crates/willowera/src', '.rt'):
+    for path in files_in('crates/willowera_c/src', '.rt'):
         for function in re.findall(r'pub extern "C" fn (\w+)', read(path)):
             if function not in promised:
                 wrong.append(f'{path}: {PAGE} does not list the exported function {function}')
@@ -207,25 +212,51 @@ def check(page, tree):
 # ── Verdicts ──
 
 
+def log(name):
+    path = f'{LOGS}/{name}'
+    return read(path) if os.path.exists(os.path.join(ROOT, path)) else ''
+
+
+def verdict_in(text):
+    return (re.findall(r'(?m)^logic=.*$', text) or [''])[-1]
+
+
+def verdict_of(program):
+    """The verdict of a program that an earlier run proved, from a check over what is kept."""
+    ran = subprocess.run(['rt', 'check'], cwd=os.path.join(ROOT, 'crates', program), stdin=subprocess.DEVNULL, stdout=subprocess.PIPE, stderr=subprocess.STDOUT,
+                         text=True, check=False)
+    return verdict_in(ran.stdout) if ran.returncode == 0 else f'`rt check` ended with {ran.returncode}'
+
+
+def said_of(crates, proofs):
+    """crate -> its verdict in what `rt ci` or `rt all check` said, KEPT if an earlier run proved it, or nothing."""
+    parts = dict(re.findall(r'(?ms)^== (\w+)\n(.*?)(?=^(?:== |rt: \w+ (?:NOT )?PROVED|rt: \w+ proved)|\Z)', proofs))
+    kept = re.findall(r'(?m)^rt: (\w+) is kept: an earlier run on this machine proved|^(\w+): ok$', proofs)
+    kept = {name for names in kept for name in names}
+    return {crate: verdict_in(parts.get(crate, '')) or (KEPT if crate in kept else '') for crate in crates}
+
+
 def verdicts():
-    """crate -> the last line that its check printed, or an empty one."""
-    crates = re.findall(r'(?m)^(\w+):', read('crates.txt'))
-    logs = {crate: f'{LOGS}/{crate}.say' for crate in crates}
-    lines = {crate: re.findall(r'(?m)^logic=.*$', read(path)) if os.path.exists(os.path.join(ROOT, path)) else [] for crate, path in logs.items()}
-    return {crate: found[-1] if found else '' for crate, found in lines.items()}
+    """crate -> the last line that its check printed, KEPT, or an empty one."""
+    crates = re.findall(r'(?m)^(\w+)(?: [a-z]+)?:', read('crates.txt'))
+    said = said_of(crates, log('proofs')) | {STATIC: verdict_in(log(STATIC))}
+    programs = [crate for crate in crates if os.path.exists(os.path.join(ROOT, 'crates', crate, 'src', 'main.rt'))]
+    return said | {crate: verdict_of(crate) for crate in programs if said[crate] == KEPT}
 
 
 def judged(page, said):
     """What verdicts say and the page does not, and the other way round."""
     wrong, numbers, sums = [], {}, set()
     for crate, line in said.items():
+        if line == KEPT:
+            continue
         if not line.startswith('logic=proved '):
-            wrong.append(f'{LOGS}/{crate}.say: the crate is not proved: {line or "no check was made"}')
+            wrong.append(f'{crate}: the crate is not proved: {line or "no check was made"}')
         elif crate == STATIC and ' target=' not in line:
-            wrong.append(f'{LOGS}/{crate}.say: this is not the verdict of `rt staticlib {crate}`')
+            wrong.append(f'{crate}: this is not the verdict of tools/library.sh')
         words = [word for word in line.split() if not word.startswith(('logic=', 'functions='))]
         strange = [word for word in words if f'`{word}`' not in page and f'`{word.partition("=")[0]}=`' not in page]
-        wrong += [f'{LOGS}/{crate}.say: the verdict has {word}, which {PAGE} does not explain' for word in strange]
+        wrong += [f'{crate}: the verdict has {word}, which {PAGE} does not explain' for word in strange]
         numbers |= {crate: word.partition('=')[2] for word in words if word.startswith('axioms=')}
         sums |= {word for word in words if word.startswith('sum=')}
     wrong += [f'{LOGS}: the crates are not proved in one logic: {", ".join(sorted(sums))}'] * (len(sums) > 1)
@@ -244,9 +275,9 @@ def self_test():
     rows = rows_of(page)
     spec = next(path for _, _, _, path in rows if path.startswith('crates/rules/specs/'))
     kind = next(path for _, _, _, path in rows if path.startswith('crates/rules/src/'))
-    function = next(f for _, titles, cells, path in rows if path.startswith('crates/willowera/') for f in functions_of(titles, cells))
+    function = next(f for _, titles, cells, path in rows if path.startswith('crates/willowera_c/') for f in functions_of(titles, cells))
     internal = next(f for f in spec_files() if is_internal(f))
-    passing = next(f for f in spec_files() if '\npub use Rattle' in read(f))
+    passing = next(f for f in spec_files() if '\npub use Rattle.' in read(f) and not re.search(r'\npub use Rattle\.std\.', read(f)))
     passed = taken(read(passing))[0][0]
     wrong_count = re.sub(r'(?m)^(\| \[`[^|]*\| )(\d)', lambda m: m.group(1) + str((int(m.group(2)) + 1) % 10), page, count=1)
     core_row = next(line for line in page[page.index(core.BEGIN):].split('\n') if line.startswith('| [`'))
@@ -268,10 +299,10 @@ def self_test():
     path, name = core.BOARD, 'BoardDemandThree'
     text = tree.text(path)
     ending = text.split('\n')[tree.file(path).definitions[name].lines[-1]]
-    first = re.search(r'\nuse Rattle·[^{]*\{(\w+)', text)
-    added = '\nunfoldable pub addedHere : Type 0\naddedHere = Unit {0}\n'
+    first = re.search(r'\nuse Rattle\.(?!std\.)[^{]*\{(\w+)', text)
+    added = '\nunfoldable pub added_here : Type 0\nadded_here = Unit {0}\n'
     changes = {
-        'a definition that a statement of the core cites now': (text.replace(ending, f'{ending} × addedHere') + added, 'the tree has: In all the core has'),
+        'a definition that a statement of the core cites now': (text.replace(ending, f'{ending} × added_here') + added, 'the tree has: In all the core has'),
         'a longer definition of the core': (text.replace(ending, f'{ending}\n    × Unit {{0}}'), 'the tree has: In all the core has'),
         'a name in the core that nothing has': (text[:first.start(1)] + 'NoSuchName as ' + text[first.start(1):], f'it takes {first.group(1)}, which'),
         'a statement that is gone': (text.replace(f' {name} :', ' OtherName :'), f'no definition {name}'),
@@ -283,7 +314,8 @@ def self_test():
     program = next(iter(rows))
     sayings = {
         'verdicts as the page has them': (said, None),
-        'a verdict with a word that the page does not explain': (said | {'laws': f'{said["laws"]} incremental=trusted'}, 'incremental=trusted'),
+        'verdicts, and a library that an earlier run proved': (said | {'rules': KEPT}, None),
+        'a verdict with a word that the page does not explain': (said | {'laws': f'{said["laws"]} cache=trusted'}, 'cache=trusted'),
         'a verdict with another value of a word': (said | {'laws': said['laws'].replace('native=nat', 'native=nat,float')}, 'native=nat,float'),
         'a crate that is proved in another logic': (said | {'laws': said['laws'].replace('sum=1', 'sum=2')}, 'not proved in one logic'),
         'a crate that is not proved': (said | {'laws': 'logic=not-proved'}, 'the crate is not proved'),
@@ -294,6 +326,9 @@ def self_test():
         'axioms of another crate': (said | {'laws': f'{said["laws"]} axioms=1'}, 'axioms of laws: the table has no row'),
         'a row without axioms': (said | {program: said['laws']}, f'axioms of {program}'),
     }
+    proofs = '== laws\n{0} a\nrt: laws proved\nrt: {1} is kept: an earlier run on this machine proved the same files\n== rules: its tests\n{0} b\n'
+    if said_of(['laws', 'rules', 'board'], proofs.format('logic=proved', 'rules')) != {'laws': 'logic=proved a', 'rules': KEPT, 'board': ''}:
+        sayings['what rt ci says'] = (said, 'what rt ci says is not read as it is')
     reports = {what: (check(text, tree), words) for what, (text, words) in mistakes.items()}
     reports |= {what: (judged(page, lines) if words else [] if judged(page, lines) else [what], words or what) for what, (lines, words) in sayings.items()}
     reports |= {what: (check(page, core.Tree({path: text})), words) for what, (text, words) in changes.items()}
@@ -312,8 +347,9 @@ def main(words):
     elif words == ['--check']:
         wrong = check(page, tree)
     elif words == ['--verdicts']:
-        wrong = judged(page, verdicts())
-        print(f'{len(verdicts())} verdicts')
+        said = verdicts()
+        wrong = judged(page, said)
+        print(f'{sum(line.startswith("logic=") for line in said.values())} verdicts, {sum(line == KEPT for line in said.values())} crates proved by an earlier run')
     else:
         print(__doc__)
         return 2

@@ -30,7 +30,7 @@ FUNCTIONS = {
     "twos": lambda numbers: [byte for number in numbers for byte in two(number)],
     "fours": lambda numbers: [byte for number in numbers for byte in two(number % 65536) + two(number // 65536)],
     "sections": lambda *bodies: [byte for kind, body in enumerate(bodies, 1) for byte in section(kind, body)],
-    "cutOffs": lambda times: section(7, FUNCTIONS["twos"](times)),
+    "cut_offs": lambda times: section(7, FUNCTIONS["twos"](times)),
 }
 
 

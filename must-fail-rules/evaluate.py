@@ -17,13 +17,13 @@ ROOT = os.path.dirname(os.path.dirname(os.path.abspath(__file__)))
 RULES = ['Limits', 'Verdicts', 'Personality', 'Site', 'Lookup', 'IntervalTable', 'State', 'SiteTimes', 'Demands', 'Movements', 'Counts', 'Interval', 'Walks', 'Step', 'Kept', 'Timed', 'Colours', 'WaitBound', 'Waits', 'Call', 'TimedCall']
 BESIDE = ['TraceText', 'Junctions', 'Runs']
 CASES = {
-    'CallCases': ['callCases'],
-    'ReadingCases': ['headCases', 'bodyCases'],
-    'LimitCases': ['limitCases'],
-    'StateCases': ['positionCases', 'demandCases', 'movementCases'],
-    'StepCases': ['demandParts', 'movementParts', 'intervalParts', 'walkParts'],
-    'AnswerCases': ['inputCases', 'colourCases', 'answerCases'],
-    'TimedCases': ['timedCases'],
+    'CallCases': ['call_cases'],
+    'ReadingCases': ['head_cases', 'body_cases'],
+    'LimitCases': ['limit_cases'],
+    'StateCases': ['position_cases', 'demand_cases', 'movement_cases'],
+    'StepCases': ['demand_parts', 'movement_parts', 'interval_parts', 'walk_parts'],
+    'AnswerCases': ['input_cases', 'colour_cases', 'answer_cases'],
+    'TimedCases': ['timed_cases'],
 }
 
 sys.setrecursionlimit(100000)
@@ -53,15 +53,17 @@ GROUND = {
     'length': (1, len),
     'take': (2, lambda n, a: a[:n]),
     'drop': (2, lambda n, a: a[n:]),
-    'getD': (3, lambda a, i, other: a[i] if i < len(a) else other),
+    'get_or': (3, lambda a, i, other: a[i] if i < len(a) else other),
     'set': (3, put),
     'replicate': (2, lambda n, x: (x,) * n),
     'map': (2, lambda f, a: tuple(map(f, a))),
+    'ascii': (1, lambda text: tuple(text.encode())),
+    'decimal': (1, lambda n: tuple(str(n).encode())),
 }
 
 # how tightly each operator binds, whether it binds to the right, and what it is in Python
 OPERATORS = {
-    'orElse': (5, True, '(lambda v: v if v[0] == "Refused" else {1})({0})'),
+    'or_else': (5, True, '(lambda v: v if v[0] == "Refused" else {1})({0})'),
     '≡': (20, False, '({0} == {1})'),
     '||': (30, True, '({0} or {1})'),
     '&&': (35, True, '({0} and {1})'),
@@ -76,7 +78,7 @@ OPERATORS = {
 }
 # operators of the cases with words before and between their arguments: gap n max m, locks ps buttons ks
 WORDS = {'gap': ('max', '{{"gap": {0}, "maximum": {1}}}'), 'locks': ('buttons', '{{"locks": {0}, "buttons": {1}}}')}
-NOT_READ = {'gap_max_', 'locks_buttons_', '_orElse_'}
+NOT_READ = {'gap◌max◌', 'locks◌buttons◌', '◌or_else◌'}
 
 
 def one_by_one(function, count, given=()):
@@ -102,7 +104,8 @@ def variants_in_code():
 
 # ── Reading a file ──
 
-TOKEN = re.compile(r'--[^\n]*|[(){};,]|\.[A-Za-z]+|λ|[^\s(){};,]+')
+# a field, `.name`, stands right behind what it is taken of; the names of a λ end in a point
+TOKEN = re.compile(r'--[^\n]*|"[^"]*"|[(){};,]|(?<=\S)\.[A-Za-z]\w*|λ|[^\s(){};,.]+(?:\.(?=\s))?')
 
 
 def tokens_of(text):
@@ -144,7 +147,7 @@ class Module:
                 while i < len(lines) and re.match(indent + r' +--', lines[i]):
                     i += 1
             # statements are left out, but for what a case states
-            if name == 'CallHolds' or name not in NOT_READ and (whole or name in ('controllerOf', 'byRules')) and not re.search(r'[→:]\s+Type 0$', signature):
+            if name == 'CallHolds' or name not in NOT_READ and (whole or name in ('controller_of', 'by_rules')) and not re.search(r'[→:]\s+Type 0$', signature):
                 self.clauses[name] = [self.sides(c) for c in clauses]
                 self.given[name] = given if indent else []
 
@@ -236,7 +239,7 @@ class Expression:
             one = self.atom()
             self.step(WORDS[token][0])
             return WORDS[token][1].format(one, self.atom())
-        if token == '_≡_':
+        if token == '◌≡◌':
             while self.step() != '}':
                 pass
             return '(%s == %s)' % (self.atom(), self.atom())
@@ -245,17 +248,25 @@ class Expression:
             text = self.atom()
         else:
             name = self.step()
-        while True:
             if re.match(r'\.\w', self.next()):
-                text, name, arguments = '%s["%s"]' % (self.applied(name, text, arguments), self.step()[1:]), None, []
-            elif self.next() in ('λ', 'if'):
+                text, name = self.fields(self.applied(name, None, [])), None
+        while True:
+            if self.next() in ('λ', 'if'):
                 arguments.append(self.prefix())
             elif self.next() and self.next() not in OPERATORS and self.next() not in (')', '}', ';', ',', 'then', 'else', 'in', '=', 'max', 'buttons') or self.next() in self.known:
                 arguments.append(self.atom())
             else:
                 return self.applied(name, text, arguments)
 
+    def fields(self, text):
+        while re.match(r'\.\w', self.next()):
+            text = '%s["%s"]' % (text, self.step()[1:])
+        return text
+
     def atom(self):
+        return self.fields(self.single())
+
+    def single(self):
         token = self.step()
         if token == '(':
             parts = [self.operators(0)]
@@ -275,7 +286,7 @@ class Expression:
                     self.step()
             self.step('}')
             return '{%s}' % ', '.join(fields)
-        if token.isdigit():
+        if token.isdigit() or token.startswith('"'):
             return token
         return self.applied(token, None, [])
 

@@ -10,7 +10,7 @@
     must-fail-rules/mutants.py --left                              # what no worked case refuses, with what does
 
 The changes: a number one more or one less; `leb` for `ltb` and the other way; `eqb` made `leb`, either way round; a test turned round (`not` left
-out, `true` for `false`); a part of `&&` or `||` left out; a check of `orElse` left out; two neighbouring checks of `orElse` exchanged.
+out, `true` for `false`); a part of `&&` or `||` left out; a check of `or_else` left out; two neighbouring checks of `or_else` exchanged.
 
 Each is tried in a copy of the crates, in this order, up to the first refusal:
 
@@ -46,7 +46,7 @@ HERE = os.path.dirname(os.path.abspath(__file__))
 ROOT = os.path.dirname(HERE)
 RESULTS = os.path.join(ROOT, 'target', 'mutants', 'results.txt')
 PAGE = os.path.join(HERE, 'SURVIVORS.md')
-GROUND = 'use Rattle·laws.specs.Ground.{'
+GROUND = 'use Rattle.std.specs.Prelude.{'
 
 # The files of definitions, and the crates that are likeliest to refuse a wrong one, cheapest first.
 USERS = {
@@ -139,7 +139,7 @@ def chains_of(tokens):
         nonlocal operators
         kinds = {tokens[o][0] for o in operators}
         # a chain of both is one of `||` whose parts may be chains of `&&`
-        for kind in ('||', '&&', 'orElse'):
+        for kind in ('||', '&&', 'or_else'):
             if kind not in kinds:
                 continue
             outer = [o for o in operators if tokens[o][0] == ('||' if '||' in kinds and kind == '&&' else kind)]
@@ -167,21 +167,21 @@ def chains_of(tokens):
         elif token in ENDS or token.startswith('λ'):
             close(i - 1)
             first = i + 1
-        elif token in ('&&', '||', 'orElse'):
+        elif token in ('&&', '||', 'or_else'):
             operators.append(i)
     close(len(tokens) - 1)
     return found
 
 
 def atom(tokens, i):
-    """The last token of the argument that begins at token i."""
+    """The last token of the argument that begins at token i: a field stands right behind what it is taken of."""
     if tokens[i][0] not in '({':
         return i
     depth = 0
     for j in range(i, len(tokens)):
         depth += (tokens[j][0] in '({') - (tokens[j][0] in ')}')
         if depth == 0:
-            return j
+            return j + (tokens[j + 1 : j + 2] != [] and tokens[j + 1][0].startswith('.'))
 
 
 # ── The changes ──
@@ -236,10 +236,10 @@ def changes_of(file, text):
                 left, right = parts[0][0], parts[-1][1]
                 rest = [whole(*p) for j, p in enumerate(parts) if j != k]
                 yield change('part of %s left out' % operator, left, right, (' %s ' % operator).join(rest))
-            if operator == 'orElse':
+            if operator == 'or_else':
                 for k in range(len(parts) - 1):
                     (a, b), (c, d) = parts[k], parts[k + 1]
-                    yield change('checks exchanged', a, d, '%s orElse %s' % (whole(c, d), whole(a, b)))
+                    yield change('checks exchanged', a, d, '%s or_else %s' % (whole(c, d), whole(a, b)))
 
 
 def shortened(old, new):
@@ -280,32 +280,35 @@ def all_mutants(only=None):
 
 # ── Trying one ──
 
-SHAPE = ('has no field', 'no occurrence', 'has no `Need')
+SHAPE = ('has no field', 'no occurrence', 'has no `', 'is not in scope')
+RESTS = ('was rejected', 'was not admitted')
 
 
-def errors_in(log):
-    """(file, line, column, message) of each error."""
-    return [(m.group(1), int(m.group(2)), int(m.group(3)), m.group(4)) for m in re.finditer(r'^(\S+):(\d+):(\d+): error:?(.*)$', log, re.M)]
+def errors_in(log, crate):
+    """(file, line, column, message) of each error of a crate that is not only about what rests on another one."""
+    found = re.finditer(r'^(?:\./)?(\S+):(\d+):(\d+): error:?(.*)$', log, re.M)
+    return [(os.path.join('crates', crate, m.group(1)), int(m.group(2)), int(m.group(3)), m.group(4)) for m in found if not any(r in m.group(4) for r in RESTS)]
 
 
 class Room:
-    """A copy of the crates, with a target folder of its own. What does not use the rules is taken from that of the tree."""
+    """A copy of the crates. Its checks begin with what those of the tree kept."""
 
     def __init__(self):
         self.root = tempfile.mkdtemp(prefix='mutants')
-        shutil.copytree(os.path.join(ROOT, 'crates'), os.path.join(self.root, 'crates'))
+        shutil.copytree(os.path.join(ROOT, 'crates'), os.path.join(self.root, 'crates'), ignore=shutil.ignore_patterns('out', 'must-fail'))
         shutil.copy(os.path.join(ROOT, 'crates.txt'), self.root)
-        if os.path.exists(os.path.join(ROOT, 'target', 'stamp', 'laws')):
-            shutil.copytree(os.path.join(ROOT, 'target', 'rlib', 'laws.rlib'), os.path.join(self.root, 'target', 'rlib', 'laws.rlib'))
-            os.mkdir(os.path.join(self.root, 'target', 'stamp'))
-            shutil.copy(os.path.join(ROOT, 'target', 'stamp', 'laws'), os.path.join(self.root, 'target', 'stamp'))
 
     def close(self):
         shutil.rmtree(self.root)
 
-    def rt(self, *words):
-        run = subprocess.run(['rt', *words], cwd=self.root, env=dict(os.environ, RT_JOBS='1', RT_CUT='0'), stdout=subprocess.PIPE, stderr=subprocess.STDOUT)
-        return run.returncode, run.stdout.decode('utf-8', 'replace').replace(self.root + '/', '')
+    def check(self, crate):
+        """What a check of a crate comes to: the exit status, the crate that is refused (this one, or one that it uses) if one is, its errors, and the last line."""
+        run = subprocess.run(['rt', 'check', '--jobs', '1'], cwd=os.path.join(self.root, 'crates', crate), stdout=subprocess.PIPE, stderr=subprocess.STDOUT)
+        log = run.stdout.decode('utf-8', 'replace')
+        below = re.search(r'^rt: the library (\w+) did not build', log, re.M)
+        name = below.group(1) if below else crate
+        refused = name if run.returncode == 1 and re.search(r'^logic=not-proved', log, re.M) else None
+        return run.returncode, refused, errors_in(log, name), log.strip().splitlines()[-1]
 
     def read(self, part, name):
         with open(os.path.join(self.root, 'crates', 'rules', part, name), encoding='utf-8') as f:
@@ -324,7 +327,7 @@ class Room:
         for path, line, column, _ in errors:
             with open(os.path.join(self.root, path), encoding='utf-8') as f:
                 text = f.read().splitlines()
-            cases = [w for w in text[line - 2].split() if re.search('(Cases|Parts)$', w)]
+            cases = [w for w in text[line - 2].split() if re.search('_(cases|parts)$', w)]
             before = text[line - 1][: column - 1].count('refl')
             named.append('%s:%d' % (cases[0], before + 1))
         return named
@@ -337,16 +340,16 @@ class Room:
         uses = [line for line in proof.splitlines() if line.startswith('use ') and '.%s.{' % file[:-5] not in line and 'CallCases' not in line]
         opens = re.search(r'^unfolding (.*\b%s\b)' % cases, proof, re.M).group(1)
         first = uses + [
-            'use Rattle·laws.specs.Ground.{take, drop}',
-            'use Rattle·rules·specs.specs.CallCases.{CallHolds, AllHold}',
-            'use Rattle·rules·specs.specs.%s.{%s}' % (file[:-5], cases),
+            'use Rattle.std.specs.Prelude.{take, drop}',
+            'use Rattle.rules.specs.CallCases.{CallHolds, AllHold}',
+            'use Rattle.rules.specs.%s.{%s}' % (file[:-5], cases),
             'first : AllHold CallHolds (take 1 (drop %d %s))' % (int(number) - 1, cases),
             'unfolding ' + opens,
             'first = (refl, tt)',
         ]
         only = {'Opened.antt': self.read('proofs', 'Opened.antt'), 'First.antt': '\n'.join(first) + '\n', 'Lib.antt': 'pub mod Opened\npub mod First\n'}
         with self.proofs(only):
-            errors = errors_in(self.rt('dev', 'rules')[1])
+            errors = self.check('rules')[2]
         return bool(errors) and all(e[0].endswith('First.antt') and e[1] == len(first) for e in errors)
 
     @contextlib.contextmanager
@@ -377,10 +380,9 @@ class Room:
         try:
             if first and self.refused_at(first):
                 return 'case', first
-            status, log = self.rt('dev', 'rules')
-            errors = errors_in(log)
+            status, _, errors, last = self.check('rules')
             if any('/specs/' in e[0] for e in errors) or (status and not errors):
-                return 'no-program', (errors or [('', 0, 0, log.strip().splitlines()[-1])])[0][3].strip()
+                return 'no-program', (errors or [('', 0, 0, last)])[0][3].strip()
             at_cases = [e for e in errors if e[0].endswith('Cases.antt')]
             if at_cases:
                 return 'case', ' '.join(self.cases_named(at_cases))
@@ -396,13 +398,11 @@ class Room:
     def judged_by(self, crates):
         """The first of these crates, or of those that they use, that refuses what stands in the room. Its worked cases have accepted it."""
         for crate in crates:
-            status, log = self.rt('check', crate)
-            refused = re.search(r'^rt: (\w+) NOT PROVED \(exit 1', log, re.M)
-            if not refused:
+            status, name, errors, last = self.check(crate)
+            if not name:
                 if status:
-                    return 'no-program', log.strip().splitlines()[-1]
+                    return 'no-program', last
                 continue
-            errors, name = errors_in(log), refused.group(1)
             place = '%s, %s' % (name, '%s:%d' % errors[0][:2] if errors else 'no place')
             if name == 'proof_cases':
                 return 'case', name
@@ -449,7 +449,7 @@ def run(mutants, jobs, cases_only, first):
     def work():
         room = Room()
         try:
-            room.rt('dev', 'rules')
+            room.check('rules')
             while True:
                 with lock:
                     if not todo:

@@ -1,6 +1,8 @@
 #!/usr/bin/env bash
-# Applies each edit of this folder to a copy of the repository and checks the crate that must refuse it. With names: only those.
+# Applies each edit of this folder to a copy of the crates and checks the crate that must refuse it. With names: only those.
 # Prints a line for each edit. Exit status: 0 only if every one was refused as it must be; 2 if there is no edit of a name.
+#
+# The edits are tried side by side, one on each processor (or as many as RT_JOBS says), over what the crates without an edit leave.
 set -u
 here=$(cd "$(dirname "$0")" && pwd)
 root=$(dirname "$here")
@@ -8,26 +10,59 @@ root=$(dirname "$here")
 # The text of a line `KEY: TEXT` of an edit.
 value_of() { sed -n "s/^$1: //p" "$2"; }
 
-# A copy of the crates in which the worked cases of the rules are not proved. Nothing cites those proofs.
-copy_without_cases() { # ROOM
-    cp -R "$root/crates" "$root/crates.txt" "$1/"
-    rm -f "$1"/crates/rules/proofs/*Cases.antt
-    sed -i '/^pub mod [A-Za-z]*Cases$/d' "$1/crates/rules/proofs/Lib.antt"
+# These crates and all that they use, by crates.txt.
+needed() { # CRATE..
+    awk -F: -v wanted="$*" '
+        { sub(/#.*/, "") }
+        NF { split($1, head, " "); uses[head[1]] = $2 }
+        END {
+            last = split(wanted, list, " ")
+            for (i = 1; i <= last; i++) {
+                if (list[i] in seen) continue
+                seen[list[i]]
+                print list[i]
+                n = split(uses[list[i]], below, " ")
+                for (j = 1; j <= n; j++) if (below[j] in uses) list[++last] = below[j]
+            }
+        }' "$root/crates.txt"
+}
+
+# The lines of crates.txt for a copy that has only these crates.
+listed() { grep -E "^($(paste -sd '|'))( [a-z]+)?:" "$root/crates.txt"; }
+
+# A copy of these crates, with what a check kept.
+copy_crates() { # ROOM CRATE..
+    room=$1
+    shift
+    mkdir -p "$room/crates"
+    printf '%s\n' "$@" | listed >"$room/crates.txt"
+    for crate; do
+        mkdir -p "$room/crates/$crate/out"
+        for part in src specs proofs; do cp -R "$root/crates/$crate/$part" "$room/crates/$crate/" 2>/dev/null; done
+        if [ -d "$root/crates/$crate/out/incremental" ]; then cp -R "$root/crates/$crate/out/incremental" "$room/crates/$crate/out/"; fi
+    done
+}
+
+# Takes the proofs of the worked cases out of the rules. Nothing cites those proofs.
+without_cases() { # RULES-FOLDER
+    rm -f "$1"/proofs/*Cases.antt
+    sed -i '/^pub mod [A-Za-z]*Cases$/d' "$1/proofs/Lib.antt"
 }
 
 # Leaves in a crate's proofs one module and those that it uses. Nothing else of the crate is then checked.
-keep_module() { # PROOFS MODULE
+keep_module() { # CRATE-FOLDER MODULE
+    proofs=$1/proofs
     kept=" $2 " next=$2
     while [ -n "$next" ]; do
-        used=$(for module in $next; do grep -oE '·proofs\.proofs\.[A-Za-z]+' "$1/$module.antt"; done | sed 's/.*\.//' | sort -u)
+        used=$(for module in $next; do grep -oE "Rattle\.$(basename "$1")\.proofs\.[A-Za-z]+" "$proofs/$module.antt"; done | sed 's/.*\.//' | sort -u)
         next=
         for module in $used; do
             case $kept in *" $module "*) ;; *) kept="$kept$module " next="$next $module" ;; esac
         done
     done
-    for file in "$1"/*.antt; do
+    for file in "$proofs"/*.antt; do
         module=$(basename "$file" .antt)
-        case " Lib$kept" in *" $module "*) ;; *) rm "$file" && sed -i "/^pub mod $module\$/d" "$1/Lib.antt" ;; esac
+        case " Lib$kept" in *" $module "*) ;; *) rm "$file" && sed -i "/^pub mod $module\$/d" "$proofs/Lib.antt" ;; esac
     done
 }
 
@@ -42,54 +77,78 @@ replace_once() { # FILE OLD NEW
         }' "$1" >"$1.edited" && mv "$1.edited" "$1"
 }
 
-try_edit() { # EDIT
-    name=$(basename "$1" .edit) by=$(value_of 'refused by' "$1")
+# What an error says that speaks only of a proof's shape or of a name, and not of a fact.
+shape='has no field|no occurrence|has no `|is not in scope|is no name|operand is missing|expected the end|cannot continue'
+
+try_edit() { # EDIT ROOM
+    name=$(basename "$1" .edit) by=$(value_of 'refused by' "$1") room=$2
     crate=${by%%/*}
-    room=$(mktemp -d)
-    cp -R "$base/." "$room/"
-    case $by in */*) keep_module "$room/crates/$crate/proofs" "${by#*/}" ;; esac
+    rm -rf "$room" && mkdir -p "$room/crates"
+    needed "$crate" | listed >"$room/crates.txt"
+    # A check replaces files and changes none, so the copy may share them.
+    for one in $(needed "$crate"); do cp -Rl "$base/crates/$one" "$room/crates/"; done
+    without_cases "$room/crates/rules"
+    case $by in */*) keep_module "$room/crates/$crate" "${by#*/}" ;; esac
     if ! replace_once "$room/crates/rules/$(value_of file "$1")" "$(value_of old "$1")" "$(value_of new "$1")"; then
         echo "$name: BAD EDIT: its old text does not stand once in the file"
-        rm -rf "$room"
         return 1
     fi
-    (cd "$room" && RT_JOBS=1 RT_CUT=0 rt check "$crate") >"$room/log" 2>&1
-    first=$(grep -m 1 ': error' "$room/log" | sed "s|$room/||" | cut -c1-160)
-    unproved=$(sed -n 's/^rt: \([a-z_]*\) NOT PROVED.*/\1/p' "$room/log" | head -n 1)
-    if [ -n "$unproved" ] && [ "$unproved" != "$crate" ]; then
-        echo "$name: BAD EDIT: $unproved, below $crate, is not proved with it: $first"
-        status=1
-    elif ! grep -q "^rt: $crate NOT PROVED (exit 1" "$room/log"; then
+    (cd "$room/crates/$crate" && rt check --jobs 1) >"$room/log" 2>&1
+    status=$?
+    # the first error that is not only about what rests on another one
+    first=$(grep ': error' "$room/log" | grep -v -m 1 -e 'was rejected' -e 'was not admitted' | sed 's|^\./||' | cut -c1-160)
+    below=$(sed -n 's/^rt: the library \([a-z0-9_]*\) did not build.*/\1/p' "$room/log" | head -n 1)
+    if [ -n "$below" ]; then
+        echo "$name: BAD EDIT: $below, below $crate, is not proved with it: $first"
+    elif [ "$status" -eq 0 ]; then
         echo "$name: NOT REFUSED by $by"
-        status=1
-    elif grep -m 1 ': error' "$room/log" | grep -q -e 'has no field' -e 'no occurrence' -e 'has no `Need'; then
+    elif [ "$status" -ne 1 ] || ! grep -q '^logic=not-proved' "$room/log"; then
+        echo "$name: NOT TRIED: the check of $crate gave no verdict (exit $status): $(tail -n 1 "$room/log" | cut -c1-160)"
+    elif [ -z "$first" ] || grep -qE "$shape" <<<"$first"; then
         echo "$name: BAD EDIT: it only breaks the proof's shape: $first"
-        status=1
     else
         echo "$name: refused by $by, as it must be: $first"
-        status=0
+        return 0
     fi
-    rm -rf "$room"
-    return "$status"
+    return 1
 }
 
 if [ $# -eq 0 ]; then
     for edit in "$here"/*.edit; do set -- "$@" "$(basename "$edit" .edit)"; done
 fi
+refusing=
 for name; do
     if [ ! -f "$here/$name.edit" ]; then
         echo "must-fail-rules has no edit '$name'" >&2
         exit 2
     fi
+    by=$(value_of 'refused by' "$here/$name.edit")
+    refusing="$refusing ${by%%/*}"
 done
-# What each edit is tried on. No edit touches `laws`, so it is proved here once.
-base=$(mktemp -d)
-trap 'rm -rf "$base"' EXIT
-copy_without_cases "$base"
-if ! (cd "$base" && RT_JOBS=1 rt check laws) >"$base/log" 2>&1; then
-    cat "$base/log"
+
+# As many side by side as there are processors, each with 3 GB of memory.
+lanes=${RT_JOBS:-$(awk -v cores="$(nproc)" '$1 == "MemAvailable:" { n = int($2 / 3000000); print n < 1 ? 1 : n < cores ? n : cores }' /proc/meminfo)}
+
+# What each edit is tried on: all crates that it needs are proved here without an edit.
+rooms=$(mktemp -d)
+trap 'rm -rf "$rooms"' EXIT
+base=$rooms/base
+# shellcheck disable=SC2046,SC2086 # several crates
+copy_crates "$base" $(needed $refusing)
+if ! (cd "$base" && rt all check --jobs "$lanes") >"$rooms/log" 2>&1; then
+    cat "$rooms/log"
     exit 1
 fi
+
+names=("$@") trying=()
+for ((lane = 0; lane < lanes && lane < ${#names[@]}; lane++)); do
+    (
+        worst=0
+        for ((at = lane; at < ${#names[@]}; at += lanes)); do try_edit "$here/${names[at]}.edit" "$rooms/$lane" || worst=1; done
+        exit "$worst"
+    ) &
+    trying+=($!)
+done
 failed=0
-for name; do try_edit "$here/$name.edit" || failed=1; done
+for lane in "${trying[@]}"; do wait "$lane" || failed=1; done
 exit "$failed"

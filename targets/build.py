@@ -34,7 +34,8 @@ TARGETS = {
 }
 
 # As the kit compiles for x86-64, but for the processor.
-COMMON = "-ffunction-sections -fdata-sections -mllvm -trap-unreachable -mllvm -no-trap-after-noreturn --no-default-config -Werror"
+COMMON = ("-ffunction-sections -fdata-sections -mllvm -trap-unreachable -mllvm -no-trap-after-noreturn -mllvm -disable-machine-licm "
+          "-mllvm -disable-postra-machine-licm -mllvm -sink-common-insts=false --no-default-config -Werror")
 LEVEL = "-O3"
 
 

@@ -1,7 +1,7 @@
 """Catches the module of bitcode that a driver of the kit hands to clang.
 
 The driver runs with a shadow of the kit: a folder of links to the kit, with a script in the place of clang that keeps the module and calls
-the real clang.
+the real clang. `rt` takes for the kit the folder that its own file stands in, so the shadow has copies of the scripts beside it.
 """
 
 import os
@@ -10,6 +10,8 @@ import shutil
 import subprocess
 
 from kit import ROOT, Refused, kit, said_by, tool
+
+COPIED = ("rt", "rtlib.py")
 
 STAND_IN = """#!/bin/sh
 # Stands in for clang: keeps the words of each call, the module it is given and the object that it makes.
@@ -43,6 +45,13 @@ def shadow_kit(folder, caught):
     home = kit()
     real = tool("clang")
     link_all(home, folder, real.relative_to(home).parts)
+    (folder / "bin").unlink()
+    (folder / "bin").mkdir()
+    for entry in (home / "bin").iterdir():
+        if entry.name in COPIED:
+            shutil.copy(entry, folder / "bin")
+        else:
+            (folder / "bin" / entry.name).symlink_to(entry)
     clang = folder / real.relative_to(home)
     clang.write_text(STAND_IN.format(clang=real.resolve(), caught=caught))
     clang.chmod(0o755)
@@ -68,7 +77,8 @@ def catch(folder, driver):
     caught = folder / "caught"
     caught.mkdir(parents=True)
     home = shadow_kit(folder / "kit", caught)
-    said = subprocess.run(driver, cwd=ROOT, env={**os.environ, "RATTLE_HOME": str(home)}, stdin=subprocess.DEVNULL,
+    path = f"{home / 'bin'}{os.pathsep}{os.environ['PATH']}"
+    said = subprocess.run(driver, cwd=ROOT, env={**os.environ, "PATH": path}, stdin=subprocess.DEVNULL,
                           stdout=subprocess.PIPE, stderr=subprocess.STDOUT, text=True)
     if said.returncode != 0:
         raise Refused(f"{said.stdout}'{' '.join(driver)}' failed: the library is not proved, and no archive is built")

@@ -10,7 +10,7 @@ PORTABLE = re.compile(
     r"|[su](add|sub|mul)\.(with\.overflow|sat)|[su](min|max)|abs|ctpop|ctlz|cttz|bswap|bitreverse|fsh[lr]"
     r"|fabs|floor|ceil|trunc|rint|nearbyint|sqrt|fpto[su]i\.sat|is\.fpclass)\b")
 
-STRINGS_ALLOWED = {'"probe-stack"="inline-asm"', '"target-cpu"="x86-64"'}
+STRINGS_ALLOWED = {'"probe-stack"="inline-asm"', '"stack-probe-size"="3072"', '"target-cpu"="x86-64"'}
 
 # What a line must not have, its strings and names left out, and what that is.
 BOUND = [

@@ -1,7 +1,6 @@
 """The kit and its programs, refusals, and the folder of what is built: for the other programs here."""
 
 import fcntl
-import os
 import shutil
 import subprocess
 import sys
@@ -18,28 +17,27 @@ class Refused(Exception):
 
 def kit():
     """The folder of the kit, found as the command `rt` finds it."""
-    if "RATTLE_HOME" in os.environ:
-        return Path(os.environ["RATTLE_HOME"]).resolve()
     command = shutil.which("rt")
     if command is None:
-        raise Refused("the command rt is not on the path: install the Rattle kit, or set RATTLE_HOME to its folder")
+        raise Refused("the command rt is not on the path: install the Rattle kit")
     return Path(command).resolve().parent.parent
 
 
 def tool(name):
-    """A program of the kit's toolchain. Its clang holds several programs, and the name by which it is called says which."""
-    clang = kit() / "on" / os.uname().machine / "toolchain" / "bin" / "clang"
+    """A program of the kit's toolchain. Its clang holds several programs, and the name by which it is called says which. A script calls it so, and no
+    link: `rt` refuses a repository with a link in it."""
+    clang = kit() / "toolchain" / "bin" / "clang"
     if name == "clang":
         return clang
-    link = BUILT / "tools" / name
-    if not link.is_symlink() or link.readlink() != clang:
-        link.parent.mkdir(parents=True, exist_ok=True)
-        link.unlink(missing_ok=True)
-        link.symlink_to(clang)
-    said = subprocess.run([link, "--version"], stdin=subprocess.DEVNULL, stdout=subprocess.PIPE, stderr=subprocess.STDOUT, text=True).stdout
+    script, text = BUILT / "tools" / name, f'#!/bin/bash\nexec -a {name} "{clang}" "$@"\n'
+    if not script.exists() or script.read_text() != text:
+        script.parent.mkdir(parents=True, exist_ok=True)
+        script.write_text(text)
+        script.chmod(0o755)
+    said = subprocess.run([script, "--version"], stdin=subprocess.DEVNULL, stdout=subprocess.PIPE, stderr=subprocess.STDOUT, text=True).stdout
     if "LLVM version" not in said and "LLD" not in said:
         raise Refused(f"the kit's clang, {clang}, does not hold {name} any more")
-    return link
+    return script
 
 
 def said_by(*words):

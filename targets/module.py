@@ -1,10 +1,10 @@
 """The library as one module of LLVM, for compilers of other processors.
 
-    python3 targets/module.py          catches the module if the crates changed, judges it, and prints the path of its text
+    python3 targets/module.py          builds the library, catches its module if the crates changed, judges it, and prints the path of its text
     python3 targets/module.py tools    prints the folder with the programs that the kit's clang holds (llvm-nm and others)
 
-`rt staticlib` proves the library and hands the kit's clang one module of bitcode, which is caught (targets/catch.py). It is kept in
-target/targets/module beside a checksum of the kit and of every crate, and caught again if the checksum differs.
+tools/library.sh proves the library and builds its archive. For that `rt lib` hands the kit's clang one module of bitcode, which is caught
+(targets/catch.py). It is kept in target/targets/module beside a checksum of the kit and of every crate, and caught again if the checksum differs.
 
 The text that other compilers read is the module but for one attribute, the name of the processor x86-64. It must name nothing that is
 bound to a machine (targets/judge.py).
@@ -12,14 +12,17 @@ bound to a machine (targets/judge.py).
 
 import hashlib
 import shutil
+import subprocess
 import sys
+import tempfile
+from pathlib import Path
 
 from catch import catch, same_object
 from judge import judge
 from kit import BUILT, ROOT, TOOLS, Alone, Refused, kit, said_by, told, tool
 
 KEPT = BUILT / "module"
-LIBRARY = "willowera"
+ARCHIVE = ROOT / "target" / "staticlib" / "libwillowera.a"
 PROCESSOR = ' "target-cpu"="x86-64"'
 
 
@@ -31,8 +34,10 @@ def text_of(bitcode):
 def checksum():
     """A checksum of all that the module is made of: the kit, the order of the crates, and their files."""
     total = hashlib.sha256((kit() / "KIT-ID").read_bytes())
-    for path in [ROOT / "crates.txt", *(ROOT / "targets" / name for name in ("module.py", "catch.py")), *sorted((ROOT / "crates").glob("*/*/**/*"))]:
-        if path.is_file() and path.parts[len(ROOT.parts) + 2:][:1] != ("must-fail",):
+    scripts = (ROOT / name for name in ("crates.txt", "tools/library.sh", "targets/module.py", "targets/catch.py"))
+    sources = (path for folder in ("src", "specs", "proofs") for path in (ROOT / "crates").glob(f"*/{folder}/**/*"))
+    for path in [*scripts, *sorted(sources)]:
+        if path.is_file():
             total.update(f"{path.relative_to(ROOT)}\n".encode() + hashlib.sha256(path.read_bytes()).digest())
     return total.hexdigest()
 
@@ -42,13 +47,15 @@ def module():
     KEPT.mkdir(parents=True, exist_ok=True)
     key, text = KEPT / "checksum", KEPT / "module.ll"
     now = checksum()
-    if not text.exists() or not key.exists() or key.read_text() != now:
+    if not ARCHIVE.exists() or not text.exists() or not key.exists() or key.read_text() != now:
         key.unlink(missing_ok=True)
-        caught = catch(BUILT / "catch", ["rt", "staticlib", LIBRARY])
-        same_object(caught, ROOT / "target" / "staticlib" / f"lib{LIBRARY}.a")
-        shutil.copy(caught / "module.bc", KEPT / "module.bc")
+        # The crates that the library uses are built first, by the kit itself, which takes what an earlier check kept.
+        subprocess.run(["tools/library.sh"], cwd=ROOT, stdin=subprocess.DEVNULL, stdout=sys.stderr, check=True)
+        with tempfile.TemporaryDirectory() as room:
+            caught = catch(Path(room) / "catch", ["tools/library.sh"])
+            same_object(caught, ARCHIVE)
+            shutil.copy(caught / "module.bc", KEPT / "module.bc")
         text.write_text(text_of(KEPT / "module.bc").replace(PROCESSOR, ""))
-        shutil.rmtree(BUILT / "catch")
         key.write_text(now)
     judge(text.read_text())
     return text

@@ -29,7 +29,7 @@ define noundef i64 @willowera_one(ptr noundef %a0, i64 noundef %a1, i16 noundef 
   ret i64 %fence
 }
 declare void @llvm.memcpy.p0.p0.i64(ptr, ptr, i64, i1)
-attributes #0 = { nounwind "probe-stack"="inline-asm" "target-cpu"="x86-64" }
+attributes #0 = { nounwind "probe-stack"="inline-asm" "stack-probe-size"="3072" "target-cpu"="x86-64" }
 '''
 
 FIRST = "  %fence = call"
@@ -73,7 +73,7 @@ MODULES = [
 ]
 
 # What a driver does instead of calling clang once with one module, the script, and a part of the sentence.
-CLANG = '"$RATTLE_HOME"/on/*/toolchain/bin/clang --target=x86_64-unknown-linux-gnu -Wno-override-module -x ir -c'
+CLANG = '"$(dirname "$(command -v rt)")"/../toolchain/bin/clang --target=x86_64-unknown-linux-gnu -Wno-override-module -x ir -c'
 DRIVERS = [
     ("calls clang twice", f"{CLANG} module.bc -o a.o && {CLANG} module.bc -o b.o", "the kit called clang 2 times"),
     ("never calls clang", "true", "the kit called clang 0 times"),

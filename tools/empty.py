@@ -1,7 +1,7 @@
 #!/usr/bin/env python3
 """A check that looked at nothing fails: runs the checks of test.sh on empty input, and demands that each fails and says why.
 
-    tools/empty.py      with the library in target/staticlib, and the proved programs in target/bin
+    tools/empty.py      with the library in target/staticlib, and the proved trace program in crates/run_trace/out
 
 An empty input is a file without bytes or with heads alone, a count of 0, a part or a name that there is not, or a copy of the repository from
 which the documents, the example sites, the tables or the library are taken away. The exit status is 0 if every check fails with the words that
@@ -18,6 +18,7 @@ ROOT = Path(__file__).resolve().parent.parent
 COPIED = ("docs", "examples", "include", "must-fail-rules", "targets", "tools", "vectors", "workbench")
 LENT = ("README.md", "CONTRIBUTING.md", "crates", "crates.txt", "rust", "target", "test.sh")
 BUILT = ROOT / "rust/target/release"
+TRACE = ROOT / "crates/run_trace/out/run_trace"
 NOTHING = "nothing was compared"
 
 
@@ -95,7 +96,7 @@ def scripts():
     yield ["node", "workbench/page/test/check.js", "examplesLoad", "nosuch"], "no such test"
     yield ["tools/install.sh", "nosuch"], "'nosuch' is not a part"
     yield ["must-fail-rules/run.sh", "nosuch"], "nosuch"
-    yield ["python3", "examples/endings.py", ROOT / "target/bin/run_trace"], "endings.py PROGRAM PROGRAM"
+    yield ["python3", "examples/endings.py", TRACE], "endings.py PROGRAM PROGRAM"
     yield ["python3", "examples/longest.py", BUILT / "longest"], "The exit status is 0 only if all of this is true"
     yield ["python3", "vectors/cabinet_lists.py"], "cabinet_lists.py PROGRAM"
     yield ["python3", "vectors/yellow.py", os.devnull], "not the table of yellow times"
@@ -116,7 +117,7 @@ def copies():
     yield lambda copy: emptied(copy, "examples/c/words.txt"), ["examples/c/check.sh", "words"], "no case"
     yield no_header, ["python3", "targets/calls.py", "names"], "no call"
     yield no_sites, ["python3", "examples/build.py", "--check"], "nothing was checked"
-    yield no_sites, ["python3", "examples/longest.py", BUILT / "longest", ROOT / "target/bin/run_trace"], "nothing was driven"
+    yield no_sites, ["python3", "examples/longest.py", BUILT / "longest", TRACE], "nothing was driven"
     yield no_sites, ["python3", "workbench/site-wasm/try.py", os.devnull], "nothing was tried"
     yield lambda copy: without(copy, "*.md", *(f"{name}/**/*.md" for name in COPIED if name not in ("include", "tools", "vectors"))), \
         ["python3", "docs/check_names.py"], "no document"

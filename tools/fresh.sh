@@ -3,7 +3,7 @@
 # commit of this repository into it and runs ./test.sh there. Everything else must be installed by the repository's own scripts.
 #
 #     tools/fresh.sh                     the whole test
-#     tools/fresh.sh --after-proofs      only the checks after rt ci, with what is proved in target/ (./test.sh --after-proofs)
+#     tools/fresh.sh --after-proofs      only the checks after rt ci, with what checks kept in crates/*/out (./test.sh --after-proofs)
 #     tools/fresh.sh --keep ..           leaves the folder and prints its path
 #
 # It needs root, Debian's packages and some 8 GB in TMPDIR (else the system's folder for temporary files). The toolchain and Rust are those of
@@ -59,7 +59,9 @@ chroot "$root" dpkg-query -W -f='${Package}\n' | sort >"$room/before"
 # ── The repository, and what is proved of it ──
 
 git clone --quiet --no-hardlinks . "$root/willowera"
-if [ "${#words[@]}" -gt 0 ] && [ -d target ]; then cp -a target "$root/willowera/"; fi
+if [ "${#words[@]}" -gt 0 ]; then
+    for kept in crates/*/out; do if [ -d "$kept" ]; then cp -a "$kept" "$root/willowera/$kept"; fi; done
+fi
 
 # ── The tests, in a mount namespace of their own ──
 

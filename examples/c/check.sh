@@ -22,7 +22,7 @@ set -u -o pipefail
 cd "$(dirname "$0")/../.." || exit 2
 
 library=target/staticlib/libwillowera.a
-[ -e "$library" ] || { echo "examples/c/check.sh: there is no $library: rt staticlib willowera makes it" >&2 && exit 2; }
+[ -e "$library" ] || { echo "examples/c/check.sh: there is no $library: tools/library.sh makes it" >&2 && exit 2; }
 built=$(mktemp -d)
 trap 'rm -rf "$built"' EXIT
 

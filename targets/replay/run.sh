@@ -85,7 +85,7 @@ build_player() { # TARGET
 }
 
 record() { # SEED CALLS FILE
-    [ -e "$library" ] || rt staticlib willowera || return 1
+    [ -e "$library" ] || tools/library.sh || return 1
     (cd rust && cargo build --quiet --release --offline --features linked -p record) && rust/target/release/record "$@"
 }
 

@@ -14,7 +14,7 @@ def load(root, folder):
     """The calls of the static library, as a shared object in a folder."""
     archive = pathlib.Path(root, "target/staticlib/libwillowera.a")
     if not archive.exists():
-        raise SystemExit(f"{archive} is missing: run `rt staticlib willowera` first")
+        raise SystemExit(f"{archive} is missing: run tools/library.sh first")
     shared = pathlib.Path(folder, "libwillowera.so")
     whole = ["-Wl,--whole-archive", archive, "-Wl,--no-whole-archive"]
     subprocess.run(["cc", "-shared", "-o", shared, *whole], check=True)

@@ -21,7 +21,7 @@
 //! ```
 //!
 //! Without it the archive is looked for in `target/staticlib` of the repository, where
-//! `rt staticlib willowera` puts it. On another processor than x86-64, name the folder of
+//! `tools/library.sh` puts it. On another processor than x86-64, name the folder of
 //! the archive that is built for it.
 //!
 //! `examples/steps.rs` is a whole program: in `rust/`,
