@@ -141,6 +141,8 @@ class Tree:
             elif f.endswith(('.rt', '.rs')):
                 text = without_comments(self.text(f), '//')
                 self.declared[f], members = declared_in_rust(text)
+                for names in re.findall(r'(?m)^ghost use [^{\n]*\.\{([^}]*)\}', text):
+                    self.taken.update(n.strip() for n in names.split(','))
                 for kind, names in members.items():
                     self.members[f.split('/')[1], kind] |= names
                 self.in_code.update(re.findall(r'[A-Za-z]\w*', text))

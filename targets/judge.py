@@ -8,7 +8,7 @@ from kit import Refused
 PORTABLE = re.compile(
     r"llvm\.(memcpy|memmove|memset|assume|trap|expect|lifetime\.(start|end)"
     r"|[su](add|sub|mul)\.(with\.overflow|sat)|[su](min|max)|abs|ctpop|ctlz|cttz|bswap|bitreverse|fsh[lr]"
-    r"|fabs|floor|ceil|trunc|rint|nearbyint|sqrt|fpto[su]i\.sat|is\.fpclass)\b")
+    r"|fabs|floor|ceil|trunc|rint|nearbyint|sqrt|fpto[su]i\.sat|is\.fpclass|arithmetic\.fence)\b")
 
 STRINGS_ALLOWED = {'"probe-stack"="inline-asm"', '"stack-probe-size"="3072"', '"target-cpu"="x86-64"'}
 
