@@ -7,8 +7,8 @@
 
 It prints a line for each name that does not exist: file, line, the name and what was looked for. The exit status is 1 if there is one.
 
-Documents are all .md files of the repository. The notes in docs/changes describe the tree at the time of a change, and docs/PORT.md names what
-things were called, so only their links are checked.
+Documents are all .md files of the repository. The notes in docs/changes describe the tree at the time of a change, and docs/PORT.md and
+docs/DESIGN-PASS.md name what things were called, so only their links are checked.
 
 The rules. In backticks:
 
@@ -54,7 +54,7 @@ from collections import defaultdict, namedtuple
 
 ROOT = os.path.dirname(os.path.dirname(os.path.abspath(__file__)))
 LINKS_ONLY = 'docs/changes/'
-PORT = 'docs/PORT.md'
+OLD_NAMES = ('docs/PORT.md', 'docs/DESIGN-PASS.md')
 PLACEHOLDERS = ('NAME', 'LABEL', 'FILE', 'MODULE', 'FUNCTION')
 CRATE_COMMANDS = r'\brt (?:ci|check|must-fail|lib|run|test|try)((?: +[a-z_][a-z0-9_]*)+)'
 
@@ -406,7 +406,7 @@ def hide_code_blocks(text):
 def check_text(tree, text, document):
     """The problems of a document, by its path in the repository."""
     folder = os.path.dirname(document)
-    links_only = document.startswith(LINKS_ONLY) or document == PORT
+    links_only = document.startswith(LINKS_ONLY) or document in OLD_NAMES
     shown, blocks = hide_code_blocks(text)
     line_of = lambda at: shown.count('\n', 0, at) + 1
     problems = []
