@@ -63,7 +63,7 @@ GROUND = {
 
 # how tightly each operator binds, whether it binds to the right, and what it is in Python
 OPERATORS = {
-    'or_else': (5, True, '(lambda v: v if v[0] == "Refused" else {1})({0})'),
+    'or_else': (5, True, '(lambda v: v if v[0] == "Err" else {1})({0})'),
     '≡': (20, False, '({0} == {1})'),
     '||': (30, True, '({0} or {1})'),
     '&&': (35, True, '({0} and {1})'),
@@ -92,8 +92,8 @@ def python_name(name):
 
 
 def variants_in_code():
-    """How many parts each variant of the types in src/ has."""
-    found = {}
+    """How many parts each variant of the types in src/ has, and of the library's Option and Result."""
+    found = {'None': 0, 'Some': 1, 'Ok': 1, 'Err': 1, 'tt': 0}
     for file in ('answer', 'site', 'state'):
         text = re.sub(r'//[^\n]*', '', read('crates/rules/src/%s.rt' % file))
         for body in re.findall(r'enum \w+ \{(.*?)\n\}', text, re.S):
@@ -321,8 +321,11 @@ class Rules:
             self.modules[name] = Module(name, read('crates/laws/specs/%s.antt' % name))
         for name in RULES + BESIDE + list(CASES):
             self.modules[name] = Module(name, read('crates/rules/specs/%s.antt' % name), whole=name != 'Runs')
-        for module in self.modules.values():
-            self.define(module)
+        # Types passes on the words of Verdicts
+        self.modules['Types'] = self.modules['Verdicts']
+        for name, module in self.modules.items():
+            if name != 'Types':
+                self.define(module)
 
     def put(self, name, text):
         """Puts another text in the place of a file of the rules."""

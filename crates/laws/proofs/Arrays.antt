@@ -85,25 +85,6 @@ module _ {ℓ} {A : Type ℓ} where
       (fill_one d (k + m) (fill_more d k m filled (omega arith) (λ i a b. same i a (omega arith))) (omega arith)
       (same (k + m) (omega arith) (omega arith)))
 
-  -- one entry more, where a store is made and where none is needed
-  pub fill-set :
-      {f : ℕ → A} {old out next : List A} {k : ℕ} {a : A} →
-      next ≡ set out k a →
-      Filled f old out k →
-      k < length old →
-      a ≡ f k →
-      Filled f old next (k + 1)
-  fill-set e filled h same = rw e (fill_step filled h same)
-
-  pub fill-skip :
-      {f : ℕ → A} {old out next : List A} {k : ℕ} (d : A) →
-      next ≡ out →
-      Filled f old out k →
-      k < length old →
-      get_or old k d ≡ f k →
-      Filled f old next (k + 1)
-  fill-skip {k = k} d e filled h same = rw (e, add-one k) (fill_one d k filled h same)
-
   -- the rest is as f has it
   pub fill-kept :
       {f : ℕ → A} {old out : List A} (d : A) (k n : ℕ) →

@@ -146,20 +146,9 @@ all-fails f n i l e = sym (not-true-false (all_of f n) (λ all. never_both (all-
 
 -- ── One index after the other, as a loop asks ──
 
-pub none_passes : (f : ℕ → Bool) → false ≡ any_of f 0
-unfolding any_of
-none_passes f = refl
-
 pub one_more : (f : ℕ → Bool) (k : ℕ) {t u : Bool} → t ≡ any_of f k → u ≡ f k → (t || u) ≡ any_of f (k + 1)
 unfolding any_of
 one_more f k e same = rw (e, same, add-one k)
-
-pub any-more : (f : ℕ → Bool) (i : ℕ) → any_of f i ≡ false → f i ≡ false → any_of f (i + 1) ≡ false
-unfolding any_of
-any-more f i p q = rw add-one (or-false-both p q)
-
-pub any-done : (f : ℕ → Bool) (n i : ℕ) → any_of f i ≡ false → i ≡ n → false ≡ any_of f n
-any-done f n i e m = sym (ap (any_of f) (sym m) ∙ e)
 
 -- the first i of n indices are tested, and all says whether they all pass
 pub record Tested (f : ℕ → Bool) (n : ℕ) (all : Bool) (i : ℕ) : Type 0 where

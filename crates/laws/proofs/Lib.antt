@@ -4,11 +4,12 @@
 --   Booleans    and, or, not: and-left, and-both, or-cases, or-false-both; decided, never-both, same-tests; implied, otherwise, not-both
 --   Indices     last-or-below, below-or-past, same-or-apart; eqb-turned, in-range; passes-below, upto-more
 --   Folds       any fold: fold-same (f = g below n), fold-at (each entry); any-found, any-at, any-none, any-past, all-at, all-each; Tested (a loop)
+--   Ranges      what `all` and `any` over a range found: all_of_range, any_of_range
 --   Tables      a rule shown by one computation: table-holds, table-same, table-equal, grid-holds, grid-same
---   Sums        sum_of and greatest_of: sum-same, sum-at, sum-within, sum-most, sum-but, greatest-at, greatest-most, greatest-with
+--   Sums        sum_of and greatest_of: sum-same, sum-at, sum-within, sum-most, sum-but, greatest-at, greatest-most
 --   Counting    count_of and indices_of: count-before, count-apart, count-within, count-one, count-only, indices-at, listed-once
 --   Lists       list_of, row_of and any list: list-at, list-same, list-told, listed, list-set, row-at, row-past, row-told; entry-same (the default)
---   Arrays      an array that a loop fills: Filled, fill-set, fill-skip, fill-done, fill-kept; or writes part behind part: Stored
+--   Arrays      an array that a loop fills: Filled, fill_step, fill_done, fill-kept; or writes part behind part: Stored
 --   Rows        a blank array that a loop fills from the front: Filled, filled-none, filled-more, filled-whole, blanks-left
 --   Entries     sums over the entries of a list: total, places, In, total-append
 --   Bits        bits of one number: bit-above, bit-below, bit-lower, bit-down, bit-up, half-bit, odd-bit, same-bits, no-bits, bit-one
@@ -23,6 +24,7 @@
 pub mod Booleans
 pub mod Indices
 pub mod Folds
+pub mod Ranges
 pub mod Tables
 pub mod Sums
 pub mod Counting

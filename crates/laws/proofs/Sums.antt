@@ -97,34 +97,3 @@ greatest-most f (suc n) m h = omega (arith, greatest-most f n m (λ i l. h i (om
 
 pub greatest-none : (f : ℕ → ℕ) (n : ℕ) → ((i : ℕ) → i < n → f i ≡ 0) → greatest_of f n ≡ 0
 greatest-none f n h = omega (arith, greatest-most f n 0 (λ i l. omega (arith, h i l)))
-
--- with v at t as well, if the other has nothing there
-pub greatest-with :
-    (f g : ℕ → ℕ) (n t v : ℕ) →
-    t < n →
-    f t ≡ 0 →
-    g t ≡ v →
-    ((i : ℕ) → (i ≡ t → ⊥) → g i ≡ f i) →
-    max (greatest_of f n) v ≡ greatest_of g n
-unfolding greatest_of
-greatest-with f g zero t v l out own same = absurd (not-suc-le-zero l)
-greatest-with f g (suc n) t v l out own same =
-    ⊎_elim
-    (λ (e : t ≡ n).
-    let front : greatest_of g n ≡ greatest_of f n = greatest-same g f n (λ i k. same i (λ z. omega (arith, z))) in
-    let old : f n ≡ 0 = ap f (sym e) ∙ out in
-    let new : g n ≡ v = ap g (sym e) ∙ own in
-    omega (arith, front, old, new))
-    (λ (k : t < n).
-    let front = greatest-with f g n t v k out own same in
-    let last : g n ≡ f n = same n (λ z. omega (arith, z)) in
-    omega (arith, front, last))
-    (last-or-below l)
-
--- entries from n on that are 0
-pub greatest-past : (f : ℕ → ℕ) (n d : ℕ) → ((i : ℕ) → n ≤ i → f i ≡ 0) → greatest_of f (d + n) ≡ greatest_of f n
-unfolding greatest_of
-greatest-past f n zero h = let same : 0 + n ≡ n = omega arith in ap (greatest_of f) same
-greatest-past f n (suc d) h =
-    let more : suc d + n ≡ suc (d + n) = omega arith in
-    ap (greatest_of f) more ∙ omega (arith, greatest-past f n d h, h (d + n) (omega arith))

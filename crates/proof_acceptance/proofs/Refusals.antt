@@ -9,11 +9,9 @@ use mathlib.Core.Path.{◌≡◌, refl, sym}
 use lib.Dec.{eqb}
 use lib.ListN.{length}
 use native.Mathlib.Omega.{arith}
-use Rattle.rules.specs.declared.answer.Verdict.{Verdict}
-use Rattle.rules.specs.declared.answer.Verdict.TheVariants.{Accepted, Refused}
+use Rattle.rules.specs.Verdicts.{Verdict, Accepted, Refused, ◌or_else◌, refuse_if, first_of}
 use Rattle.rules.specs.Limits.{phase_settings, walk_settings, early_setting}
 use Rattle.std.specs.Prelude.{if◌then◌else◌}
-use Rattle.rules.specs.Verdicts.{◌or_else◌, refuse_if, first_of}
 use Rattle.rules.specs.Personality.{site_kind, edition_of, body_at, body_length, record_at, phase_count, group_count, site_head, phases_head, groups_head, conflicts_head, detectors_head, pedestrians_head, movement_count, detector_count, past_section, early_head, has_early, order_head, has_order, end_of, section_at, time_at, times_at, site_section, time_records, timed_section, phases_section, group_record, groups_section, conflicts_section, detector_record, detectors_section, pedestrians_section, early_section, order_section, phase_without_caller, early_missing, left_over, after_pedestrians, verdict_of}
 use Rattle.rules.specs.Site.{site_of}
 use Rattle.rules.specs.Timed.{TimedState, timed_valid}

@@ -9,11 +9,10 @@ use lib.ListN.{length}
 use native.Mathlib.Nat.{add-zero, mul-le-mul_right, suc-mul}
 use native.Mathlib.Omega.{arith}
 use borrow.Author.Tests.{ltb-false, leb-true, leb-false, eqb-true, eqb-false, eq-eqb, not-false}
-use Rattle.rules.specs.declared.answer.Verdict.TheVariants.{Accepted}
+use Rattle.rules.specs.Verdicts.{Accepted, first_of}
 use Rattle.laws.specs.Folds.{any_of, count_of}
 use Rattle.laws.specs.Bytes.{two_at, bit}
 use Rattle.rules.specs.Limits.{limits, within, start_red_setting, phase_settings, walk_settings, early_setting}
-use Rattle.rules.specs.Verdicts.{first_of}
 use Rattle.rules.specs.Personality.{kind_at, site_kind, edition_of, body_length, body_at, past_section, record_at, phase_count, group_count, site_head, phases_head, groups_head, conflicts_head, detectors_head, pedestrians_head, group_set, group_mark, pedestrian, movement_count, conflict_set, detector_count, detector_phase, section_at, time_at, times_at, site_section, time_records, timed_section, phases_section, bad_group, ninth_pedestrian, group_record, phase_without_group, groups_section, bad_conflict, share_phase, conflict_in_phase, conflicts_section, bad_detector, bad_detector_at, detector_record, detectors_section, pedestrians_section, early_head, has_early, early_section, order_head, has_order, order_at, phase_not_once, order_section, calls_phase, walks_phase, phase_without_caller, stops_early, early_missing, left_over, after_pedestrians, end_of, verdict_of, detector_mode, known_mode}
 use Rattle.rules.specs.Laws.{InTable}
 use Rattle.laws.proofs.Booleans.{and_right, or-false-left, or-false-right, never_both, both-passed, or-false-three, and-false-rest}

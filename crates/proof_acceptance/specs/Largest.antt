@@ -1,6 +1,6 @@
 -- The greatest length and the greatest wait bound are reached: in each edition one accepted personality has both.
 use Rattle.std.specs.Prelude.{ℕ, zero, suc, List, [], ◌∷◌, ◌++◌, ◌≡◌, length, replicate}
-use Rattle.rules.specs.declared.answer.Verdict.TheVariants.{Accepted}
+use Rattle.rules.specs.Verdicts.{Accepted}
 use Rattle.rules.specs.declared.site.Edition.{Edition}
 use Rattle.rules.specs.Personality.{site_kind, verdict_of}
 use Rattle.rules.specs.Site.{site_of}

@@ -1,8 +1,7 @@
 -- The worked cases: document 01's starred ones, and our own below them, with one statement: each of them holds. The cases of
 -- one call that a must-fail edit of the rules needs stand in rules/specs/*Cases.antt; most of the starred ones of one call are there and here.
-use Rattle.std.specs.Prelude.{ℕ, ◌+◌, ◌^◌, ◌&&◌, ◌||◌, List, [], ◌∷◌, ◌++◌, ◌≡◌, eqb, leb, set, if◌then◌else◌}
-use Rattle.rules.specs.declared.answer.Verdict.TheVariants.{Accepted, Refused}
-use Rattle.rules.specs.declared.state.Held.TheVariants.{Nothing}
+use Rattle.std.specs.Prelude.{ℕ, ◌+◌, ◌^◌, ◌&&◌, ◌||◌, List, [], ◌∷◌, ◌++◌, ◌≡◌, eqb, leb, set, if◌then◌else◌, None}
+use Rattle.rules.specs.Verdicts.{Accepted, Refused}
 use Rattle.rules.specs.declared.state.Interval.TheVariants.{StartRed, LateStart, MinimumGreen, Running, EarlyCutOff, Yellow, AllRed}
 use Rattle.rules.specs.declared.state.KeptState.{KeptState}
 use Rattle.rules.specs.State.{idle}
@@ -213,7 +212,7 @@ early =
 
 -- A in start red at this age, with a set of locks and a kept set; the set of B alone is 2
 abbrev in_start_red : ℕ → ℕ → ℕ → KeptState
-in_start_red age locked kept = state (at 0 StartRed age Nothing) (gap 0 max 0) (locks locked buttons 0) idle kept
+in_start_red age locked kept = state (at 0 StartRed age None) (gap 0 max 0) (locks locked buttons 0) idle kept
 
 unfoldable pub keeping : List Case
 keeping =

@@ -1,8 +1,7 @@
 -- What a run shows, line by line: the rules take the calls one after the other from the fresh state, until a step call is refused. A refused
 -- retiming call hands the state on.
-use Rattle.std.specs.Prelude.{ℕ, zero, suc, ◌+◌, Bool, true, false, ◌&&◌, List, [], ◌∷◌, ◌++◌, map, eqb, replicate, if◌then◌else◌}
-use Rattle.rules.specs.declared.answer.Outcome.{Outcome}
-use Rattle.rules.specs.declared.answer.Outcome.TheVariants.{Stepped, StepRefused}
+use Rattle.std.specs.Prelude.{ℕ, zero, suc, ◌+◌, Bool, true, false, ◌&&◌, List, [], ◌∷◌, ◌++◌, map, eqb, replicate, if◌then◌else◌, Ok, Err}
+use Rattle.rules.specs.Verdicts.{Outcome, Stepped, StepRefused}
 use Rattle.rules.specs.declared.state.Interval.{Interval}
 use Rattle.rules.specs.Personality.{group_count}
 use Rattle.rules.specs.IntervalTable.{letter_of}
@@ -31,8 +30,8 @@ pub data Told : Type 0 where
 infix 3 ◌reports◌
 -- a refused step call ends the trace
 unfoldable pub unless_refused : Outcome → (ℕ → List Told) → List Told
-unless_refused (Stepped wait) lines = lines wait
-unless_refused (StepRefused number place) lines = []
+unless_refused (Ok wait) lines = lines wait
+unless_refused (Err r) lines = []
 
 unfoldable pub lines_from : ℕ → List Taken → List Told
 lines_from n [] = []

@@ -12,7 +12,6 @@ use Rattle.rules.specs.declared.site.Times.{Times}
 use Rattle.rules.specs.declared.site.WalkTimes.{WalkTimes}
 use Rattle.rules.specs.declared.state.Counts.{Counts}
 use Rattle.rules.specs.declared.state.Demands.{Demands}
-use Rattle.rules.specs.declared.state.Held.{Held}
 use Rattle.rules.specs.declared.state.Interval.{Interval}
 use Rattle.rules.specs.declared.state.Interval.TheVariants.{StartRed, LateStart, MinimumGreen, Running, EarlyCutOff, Yellow, AllRed}
 use Rattle.rules.specs.declared.state.KeptState.{KeptState}
@@ -21,7 +20,7 @@ use Rattle.rules.specs.declared.state.Position.{Position}
 use Rattle.rules.specs.declared.state.Stage.{Stage}
 use Rattle.rules.specs.declared.state.Stage.TheVariants.{Idle, Walk, ClearanceOne, ClearanceTwo}
 use Rattle.rules.specs.declared.state.State.{State}
-use Rattle.std.specs.Prelude.{if◌then◌else◌}
+use Rattle.std.specs.Prelude.{if◌then◌else◌, Option}
 use Rattle.laws.specs.Folds.{set_of}
 use Rattle.rules.specs.Site.{phase_times, walk_times, crosses, ring}
 use Rattle.rules.specs.IntervalTable.{is_held, is_idle, is_walk, is_walk_or_first, is_second, is_before_start}
@@ -83,7 +82,7 @@ second-clears ClearanceTwo age times one w c = (refl, step (leb times.second age
 
 -- ── A step that starts a phase, by what its first parts find ──
 
-module _ (site : Site) (new : Times) (phase : ℕ) (previous target : Held) (demands : Demands) (kept inputs : ℕ) where
+module _ (site : Site) (new : Times) (phase : ℕ) (previous target : Option ℕ) (demands : Demands) (kept inputs : ℕ) where
   -- the state before the step, of such an age, with such counts and movements
   abbrev before : Interval → ℕ → Counts → List Movement → KeptState
   before interval age counts movements =
@@ -100,7 +99,7 @@ module _ (site : Site) (new : Times) (phase : ℕ) (previous target : Held) (dem
 
   -- the state after it, by the phase demanded next, the demands that stand, the movements after part 2, whether the interval ended, and the
   -- phases that are kept
-  assembled : Interval → ℕ → Held → Demands → List Movement → Bool → (ℕ → Bool) → KeptState
+  assembled : Interval → ℕ → Option ℕ → Demands → List Movement → Bool → (ℕ → Bool) → KeptState
   assembled interval age next standing moving ended keeps =
       let old : Position = record { phase = phase; interval = interval; age = age; previous = previous; target = target } in
       let now = position_after ended new next old in
@@ -118,7 +117,7 @@ module _ (site : Site) (new : Times) (phase : ℕ) (previous target : Held) (dem
   ageless :
       (interval : Interval) →
       is_before_start interval ≡ true →
-      (age age' : ℕ) (next : Held) (standing : Demands) (moving : List Movement) (keeps : ℕ → Bool) →
+      (age age' : ℕ) (next : Option ℕ) (standing : Demands) (moving : List Movement) (keeps : ℕ → Bool) →
       assembled interval age next standing moving true keeps ≡ assembled interval age' next standing moving true keeps
   unfolding assembled position_after following starts counts_changed
   ageless StartRed h age age' next standing moving keeps = refl
@@ -314,9 +313,9 @@ starts-clear site sound s v h k l =
 
 -- the position after a change is what follows under the new times
 change-follows :
-    (site : Site) (new : Times) (phase age : ℕ) (previous target : Held) (counts : Counts) (demands : Demands) (movements : List Movement) (kept inputs : ℕ) (interval : Interval) →
+    (site : Site) (new : Times) (phase age : ℕ) (previous target : Option ℕ) (counts : Counts) (demands : Demands) (movements : List Movement) (kept inputs : ℕ) (interval : Interval) →
     starts_next site (before site new phase previous target demands kept inputs interval age counts movements).core ≡ true →
-    (next : Held) ×
+    (next : Option ℕ) ×
     ((kept_stepped_into new site (without_counts (before site new phase previous target demands kept inputs interval age counts movements)) inputs).core.position
     ≡ following interval new next (record { phase = phase; interval = interval; age = age; previous = previous; target = target }))
 unfolding starts_next ends walk_may_end position_after stepped_into
@@ -333,7 +332,7 @@ change-follows site new phase age previous target counts demands movements kept 
 pub change-position :
     (site : Site) (new : Times) (s : KeptState) (inputs : ℕ) →
     starts_next site s.core ≡ true →
-    (next : Held) × ((kept_stepped_into new site (without_counts s) inputs).core.position ≡ following s.core.position.interval new next s.core.position)
+    (next : Option ℕ) × ((kept_stepped_into new site (without_counts s) inputs).core.position ≡ following s.core.position.interval new next s.core.position)
 change-position site new s inputs h =
     let old = s.core.position in
     change-follows site new old.phase old.age old.previous old.target s.core.counts s.core.demands s.core.movements s.kept inputs old.interval h

@@ -6,7 +6,6 @@ use lib.Dec.{leb, eqb}
 use mathlib.Core.Path.{◌≡◌, refl, sym, ap, ◌∙◌}
 use Rattle.rules.specs.declared.site.Site.{Site}
 use Rattle.rules.specs.declared.site.Times.{Times}
-use Rattle.rules.specs.declared.state.Held.{Held}
 use Rattle.rules.specs.declared.state.Position.{Position}
 use Rattle.rules.specs.declared.state.Interval.{Interval}
 use Rattle.rules.specs.declared.state.Interval.TheVariants.{StartRed, LateStart, MinimumGreen, Running, EarlyCutOff, Yellow, AllRed}
@@ -20,7 +19,7 @@ use Rattle.rules.specs.Timed.{starts_next}
 use Rattle.rules.specs.TimedLaws.{starts_phase}
 use Rattle.rules.specs.Step.{stepped}
 use Rattle.rules.specs.Demands.{next_demanded}
-use Rattle.std.specs.Prelude.{if◌then◌else◌}
+use Rattle.std.specs.Prelude.{if◌then◌else◌, Option}
 use Rattle.laws.proofs.Booleans.{and_left}
 use Rattle.proof_runs.proofs.Steps.{ended, moving, started}
 use Rattle.proof_runs.proofs.Ends.{ended-in, next-in, started-in}
@@ -80,7 +79,7 @@ module _ (site : Site) (s : State) (inputs : ℕ) where
 -- ── What the states before and after the step show of it ──
 
 -- the interval that follows start red or all-red is neither
-pub follows : (i : Interval) (times : Times) (next : Held) (position : Position) → (is_before_start i && not (is_before_start (following i times next position).interval)) ≡ is_before_start i
+pub follows : (i : Interval) (times : Times) (next : Option ℕ) (position : Position) → (is_before_start i && not (is_before_start (following i times next position).interval)) ≡ is_before_start i
 unfolding following starting
 follows StartRed times next position = begins (eqb (phase_times times position.phase).late 0)
   where

@@ -8,11 +8,10 @@ use lib.Dec.{ltb}
 use lib.ListN.{get_or-replicate}
 use Rattle.rules.specs.declared.site.Site.{Site}
 use Rattle.rules.specs.declared.site.Times.{Times}
-use Rattle.rules.specs.declared.state.Held.{Held}
 use Rattle.rules.specs.declared.state.KeptState.{KeptState}
 use Rattle.rules.specs.declared.state.Position.{Position}
 use Rattle.rules.specs.declared.state.State.{State}
-use Rattle.std.specs.Prelude.{if◌then◌else◌}
+use Rattle.std.specs.Prelude.{if◌then◌else◌, Option}
 use Rattle.rules.specs.Limits.{limit_of, within}
 use Rattle.rules.specs.Site.{no_phase_times, no_walk_times, phase_times, walk_times}
 use Rattle.rules.specs.IntervalTable.{is_before_start}
@@ -198,7 +197,7 @@ module _ (site : Site) (sound : Sound site) (s : TimedState) (v : timed_valid si
   unfolding timed_stepped
   timed-forgets inputs =
       ap
-      (λ (next : Held).
+      (λ (next : Option ℕ).
       stepped_into (ruling_next site s) next (ruled_site site s) (if takes_over site s then without_counts (kept_of s) else kept_of s).core inputs)
       (next-same (takes_over site s) inputs)
 

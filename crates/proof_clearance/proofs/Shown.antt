@@ -5,12 +5,11 @@ use mathlib.Core.Bool.{Bool, true, false}
 use mathlib.Core.Path.{◌≡◌, refl, ◌∙◌}
 use lib.Dec.{eqb}
 use Rattle.rules.specs.declared.site.Site.{Site}
-use Rattle.rules.specs.declared.state.Held.{Held}
 use Rattle.rules.specs.declared.state.Position.{Position}
 use Rattle.rules.specs.declared.state.Stage.{Stage}
 use Rattle.rules.specs.declared.state.Stage.TheVariants.{Idle, Walk, ClearanceOne, ClearanceTwo}
 use Rattle.rules.specs.declared.state.State.{State}
-use Rattle.std.specs.Prelude.{if◌then◌else◌}
+use Rattle.std.specs.Prelude.{if◌then◌else◌, Option}
 use Rattle.rules.specs.Site.{group_of, in_phase, is_pedestrian, movement_of}
 use Rattle.rules.specs.IntervalTable.{held_in}
 use Rattle.rules.specs.State.{movement}
@@ -20,7 +19,7 @@ use Rattle.rules.specs.DemandThree.{shows}
 use Rattle.proof_runs.proofs.Chains.{Link}
 
 -- group g has the phase held in its set
-abbrev pub keeps : Site → ℕ → Held → Bool
+abbrev pub keeps : Site → ℕ → Option ℕ → Bool
 keeps site g held = held_in held (group_of site.groups g).phases
 
 abbrev pub stops_early : Site → ℕ → Bool

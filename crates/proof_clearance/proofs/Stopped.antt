@@ -8,11 +8,10 @@ use mathlib.Core.Path.{◌≡◌, refl, ap}
 use lib.Dec.{leb}
 use borrow.Author.Tests.{le-leb, lt-leb, not-true, not-false}
 use Rattle.rules.specs.declared.site.Site.{Site}
-use Rattle.rules.specs.declared.state.Held.{Held}
 use Rattle.rules.specs.declared.state.Interval.{Interval}
 use Rattle.rules.specs.declared.state.Interval.TheVariants.{StartRed, LateStart, MinimumGreen, Running, EarlyCutOff, Yellow, AllRed}
 use Rattle.rules.specs.declared.state.Position.{Position}
-use Rattle.std.specs.Prelude.{if◌then◌else◌}
+use Rattle.std.specs.Prelude.{if◌then◌else◌, Option}
 use Rattle.rules.specs.Site.{group_of, in_phase, phase_times}
 use Rattle.rules.specs.State.{highest_age}
 use Rattle.rules.specs.Movements.{older}
@@ -114,7 +113,7 @@ module _ {site : Site} {j p c : ℕ} {position : Position} where
 -- ── What follows green ──
 
 module _
-    (site : Site) (j : ℕ) (next : Held) (position : Position) (times : Timed (phase_times site.times position.phase))
+    (site : Site) (j : ℕ) (next : Option ℕ) (position : Position) (times : Timed (phase_times site.times position.phase))
     (member : in_phase site.groups j position.phase ≡ true) where
   -- green again, or stopped
   abbrev Goes : Position → Type 0
@@ -122,7 +121,7 @@ module _
 
   -- the first step of an interval in which the group is stopped
   begins :
-      (i : Interval) (target : Held) {before : ℕ} →
+      (i : Interval) (target : Option ℕ) {before : ℕ} →
       keeps site j target ≡ false →
       before ≡ 0 →
       Leaving site j position.phase i before 1 (entering i target position)
@@ -131,7 +130,7 @@ module _
 
   -- yellow begins, and a group that has not the target has not been stopped before
   into-yellow :
-      (target : Held) → (keeps site j target ≡ false → ahead site j position.phase ≡ 0) → Goes (entering Yellow target position)
+      (target : Option ℕ) → (keeps site j target ≡ false → ahead site j position.phase ≡ 0) → Goes (entering Yellow target position)
   unfolding entering vehicle_colour
   into-yellow target none =
       ⊎_elim
@@ -140,7 +139,7 @@ module _
       (decided (keeps site j target))
 
   -- early cut-off green begins
-  into-early : (target : Held) → ((phase_times site.times position.phase).early ≡ 0 → ⊥) → Goes (entering EarlyCutOff target position)
+  into-early : (target : Option ℕ) → ((phase_times site.times position.phase).early ≡ 0 → ⊥) → Goes (entering EarlyCutOff target position)
   unfolding entering vehicle_colour
   into-early target some =
       let kept = keeps site j target in

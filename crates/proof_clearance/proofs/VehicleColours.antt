@@ -9,12 +9,10 @@ use lib.Dec.{eqb}
 use Rattle.rules.specs.declared.site.Group.{Group}
 use Rattle.rules.specs.declared.site.Site.{Site}
 use Rattle.rules.specs.declared.site.Times.{Times}
-use Rattle.rules.specs.declared.state.Held.{Held}
-use Rattle.rules.specs.declared.state.Held.TheVariants.{Nothing, Phase}
 use Rattle.rules.specs.declared.state.Interval.{Interval}
 use Rattle.rules.specs.declared.state.Interval.TheVariants.{StartRed, LateStart, MinimumGreen, Running, EarlyCutOff, Yellow, AllRed}
 use Rattle.rules.specs.declared.state.Position.{Position}
-use Rattle.std.specs.Prelude.{if◌then◌else◌}
+use Rattle.std.specs.Prelude.{if◌then◌else◌, Option, Some, None}
 use Rattle.rules.specs.Site.{group_of, in_phase, phase_times}
 use Rattle.rules.specs.IntervalTable.{held_in, phase_held}
 use Rattle.rules.specs.Interval.{entering, starting, leaving, following}
@@ -40,7 +38,7 @@ by-closing false false =
     record { was-green = λ e. absurd (omega arith); green = λ e. absurd (omega arith); red = λ e. absurd (omega arith) }
 
 colour-fades :
-    (i : Interval) (closes : Bool) (previous target : Held) (group : Group) →
+    (i : Interval) (closes : Bool) (previous target : Option ℕ) (group : Group) →
     Fades (vehicle_colour i closes previous target group) (vehicle_colour i true previous target group)
 unfolding vehicle_colour
 colour-fades StartRed closes previous target group = same
@@ -94,9 +92,9 @@ first_interval no_late = if no_late then MinimumGreen else LateStart
 
 -- mark 1 does not wait where came-from is in its set
 started-green :
-    (no_late : Bool) (previous : Held) (group : Group) →
+    (no_late : Bool) (previous : Option ℕ) (group : Group) →
     held_in previous group.phases ≡ true →
-    vehicle_colour (first_interval no_late) true previous Nothing group ≡ green
+    vehicle_colour (first_interval no_late) true previous None group ≡ green
 unfolding vehicle_colour
 started-green true previous group e = refl
 started-green false previous group e = rw e (waits-not (eqb group.mark 1))
@@ -105,7 +103,7 @@ started-green false previous group e = rw e (waits-not (eqb group.mark 1))
     waits-not true = refl
     waits-not false = refl
 
-started-either : (no_late : Bool) (previous : Held) (group : Group) → RedOrGreen (vehicle_colour (first_interval no_late) true previous Nothing group)
+started-either : (no_late : Bool) (previous : Option ℕ) (group : Group) → RedOrGreen (vehicle_colour (first_interval no_late) true previous None group)
 unfolding vehicle_colour
 started-either true previous group = inr refl
 started-either false previous group = chosen (eqb group.mark 1 && not (held_in previous group.phases)) (inl refl) (inr refl)
@@ -113,22 +111,22 @@ started-either false previous group = chosen (eqb group.mark 1 && not (held_in p
 module _ (site : Site) (j : ℕ) (times : Times) where
   -- the target starts green where it and the phase that was left are in the set
   pub target-green :
-      (p : ℕ) (target : Held) →
+      (p : ℕ) (target : Option ℕ) →
       in_phase site.groups j p ≡ true →
       keeps site j target ≡ true →
-      closing_at site j (starting times (phase_held target) (Phase p)) ≡ green
+      closing_at site j (starting times (phase_held target) (Some p)) ≡ green
   unfolding held_in phase_held in_phase starting
-  target-green p Nothing m h = absurd (true≢false (sym h))
-  target-green p (Phase q) m h = rw h (started-green (eqb (phase_times times q).late 0) (Phase p) (group_of site.groups j) m)
+  target-green p None m h = absurd (true≢false (sym h))
+  target-green p (Some q) m h = rw h (started-green (eqb (phase_times times q).late 0) (Some p) (group_of site.groups j) m)
 
-  start-either : (p : ℕ) (previous : Held) → RedOrGreen (closing_at site j (starting times p previous))
+  start-either : (p : ℕ) (previous : Option ℕ) → RedOrGreen (closing_at site j (starting times p previous))
   unfolding starting
   start-either p previous =
       chosen (in_phase site.groups j p) (started-either (eqb (phase_times times p).late 0) previous (group_of site.groups j)) (inl refl)
 
   -- ── What follows red ──
 
-  module _ (next : Held) (position : Position) where
+  module _ (next : Option ℕ) (position : Position) where
     abbrev of_phase : Bool
     of_phase = in_phase site.groups j position.phase
 
@@ -147,4 +145,4 @@ module _ (site : Site) (j : ℕ) (times : Times) where
         not-red true e = omega arith
         not-red false e = omega arith
     red-follows Yellow e = chosen of_phase (chosen (keeps site j position.target) (inr refl) (inl refl)) (inl refl)
-    red-follows AllRed e = start-either (phase_held position.target) (Phase position.phase)
+    red-follows AllRed e = start-either (phase_held position.target) (Some position.phase)

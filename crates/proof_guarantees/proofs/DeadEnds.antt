@@ -1,14 +1,13 @@
 -- No call of a list of step and retiming calls is refused for the state that the calls before it left: the fresh state is valid, and every call
 -- leads from a valid state to a valid state.
+use Rattle.std.specs.Prelude.{Ok, Err}
 use Prim.Native.Nat.{ℕ}
 use mathlib.Core.Bool.{true}
 use mathlib.Core.List.{List, [], ◌∷◌}
 use mathlib.Core.Path.{◌≡◌, refl, ap}
 use lib.Dec.{ltb}
 use lib.ListN.{length}
-use Rattle.rules.specs.declared.answer.Verdict.{Verdict}
-use Rattle.rules.specs.declared.answer.Verdict.TheVariants.{Accepted, Refused}
-use Rattle.rules.specs.Verdicts.{refuse_if, ◌or_else◌}
+use Rattle.rules.specs.Verdicts.{Verdict, Accepted, Refused, refuse_if, ◌or_else◌}
 use Rattle.rules.specs.Personality.{verdict_of}
 use Rattle.rules.specs.Site.{site_of, times_in}
 use Rattle.rules.specs.SiteTimes.{under}
@@ -42,17 +41,17 @@ module _ (b : List ℕ) (known : verdict_of b ≡ Accepted) where
         let new = timed_stepped (site_of b) s inputs in
         bound_for v (wait_bound (under (site_of b) new.ruling)) ≡ bound_for (own inputs room) (wait_bound (under (site_of b) (handed_back v new s).ruling))
     unfolding bound_for handed_back
-    own-outcome inputs room Accepted e = ap (λ (v : Verdict). bound_for v (wait_bound (under (site_of b) (timed_stepped (site_of b) s inputs).ruling))) e
-    own-outcome inputs room (Refused number place) e = ap (λ (v : Verdict). bound_for v (wait_bound (under (site_of b) s.ruling))) e
+    own-outcome inputs room (Ok _) e = ap (λ (v : Verdict). bound_for v (wait_bound (under (site_of b) (timed_stepped (site_of b) s inputs).ruling))) e
+    own-outcome inputs room (Err r) e = ap (λ (v : Verdict). bound_for v (wait_bound (under (site_of b) s.ruling))) e
 
     step-valid :
         (inputs room : ℕ) (v : Verdict) →
         timed_verdict b s inputs room ≡ v →
         timed_valid (site_of b) (handed_back v (timed_stepped (site_of b) s inputs) s) ≡ true
     unfolding handed_back checks_by StepKeepsValid
-    step-valid inputs room Accepted e =
+    step-valid inputs room (Ok _) e =
         step-keeps-valid b known s valid inputs (checks-told b inputs room (timed_valid (site_of b) s) e).1
-    step-valid inputs room (Refused number place) e = valid
+    step-valid inputs room (Err r) e = valid
 
     -- ── Retiming calls ──
 
@@ -63,8 +62,8 @@ module _ (b : List ℕ) (known : verdict_of b ≡ Accepted) where
     retime-valid :
         (new : List ℕ) (v : Verdict) → retime_verdict b s new ≡ v → timed_valid (site_of b) (handed_back v (retimed s (times_in new)) s) ≡ true
     unfolding handed_back RetimeKeepsValid
-    retime-valid new Accepted e = retime-keeps-valid b known s valid new e
-    retime-valid new (Refused number place) e = valid
+    retime-valid new (Ok _) e = retime-keeps-valid b known s valid new e
+    retime-valid new (Err r) e = valid
 
   -- ── Lists of calls ──
 

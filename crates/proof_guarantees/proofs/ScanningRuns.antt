@@ -4,11 +4,9 @@ use mathlib.Core.Bool.{Bool, true, false, not}
 use mathlib.Core.List.{List}
 use mathlib.Core.Path.{◌≡◌, refl, sym, ap, subst, ◌∙◌}
 use lib.ListN.{length}
-use Rattle.rules.specs.declared.answer.Verdict.{Verdict}
-use Rattle.rules.specs.declared.answer.Verdict.TheVariants.{Accepted, Refused}
+use Rattle.rules.specs.Verdicts.{Verdict, Accepted, Refused, ◌or_else◌, refuse_if}
 use Rattle.rules.specs.declared.state.State.{State}
-use Rattle.std.specs.Prelude.{if◌then◌else◌}
-use Rattle.rules.specs.Verdicts.{◌or_else◌, refuse_if}
+use Rattle.std.specs.Prelude.{if◌then◌else◌, Ok, Err}
 use Rattle.rules.specs.Personality.{verdict_of}
 use Rattle.rules.specs.Site.{site_of, times_in}
 use Rattle.rules.specs.State.{valid}
@@ -96,19 +94,19 @@ module _ (b : List ℕ) (known : verdict_of b ≡ Accepted) where
         timed_verdict b s inputs room ≡ v →
         Rest (handed_back v (timed_stepped (site_of b) s inputs) s) (handed_back v (stepped_finding next_demanded (site_of b) t inputs) t)
     unfolding handed_back checks_by StepKeepsValid stepped_finding
-    next-rest inputs room Accepted e = (
+    next-rest inputs room (Ok _) e = (
       step-keeps-valid b known s r.0 inputs (checks-told b inputs room (timed_valid (site_of b) s) e).1,
       next-same inputs,
     )
-    next-rest inputs room (Refused number place) e = r
+    next-rest inputs room (Err _) e = r
 
     retimed-rest :
         (new : List ℕ) (v : Verdict) →
         retime_verdict b s new ≡ v →
         Rest (handed_back v (retimed s (times_in new)) s) (handed_back v (retimed t (times_in new)) t)
     unfolding handed_back retimed RetimeKeepsValid
-    retimed-rest new Accepted e = (retime-keeps-valid b known s r.0 new e, ap (λ (s : TimedState). retimed s (times_in new)) r.1)
-    retimed-rest new (Refused number place) e = r
+    retimed-rest new (Ok _) e = (retime-keeps-valid b known s r.0 new e, ap (λ (s : TimedState). retimed s (times_in new)) r.1)
+    retimed-rest new (Err _) e = r
 
     alike : Alike by_rules scanning b Rest s t
     unfolding by_rules scanning checks_by retime_checks_by

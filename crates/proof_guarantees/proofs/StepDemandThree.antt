@@ -1,4 +1,5 @@
 -- Lists of step calls alone: the personality's own times rule in every state, and no step is a change. So demand 3 gives the demand for them.
+use Rattle.std.specs.Prelude.{Ok, Err}
 use Prim.Native.Nat.{ℕ, zero, suc, ◌≤◌}
 use mathlib.Core.Bool.{Bool, true, false}
 use mathlib.Core.List.{List, [], ◌∷◌, ◌++◌, map, append_assoc}
@@ -6,10 +7,7 @@ use mathlib.Core.Path.{◌≡◌, refl, sym, subst, ap, ◌∙◌}
 use native.Mathlib.Omega.{arith}
 use lib.ListN.{length, take, drop, take-append-drop}
 use lib.Seq.{length-take-le}
-use Rattle.rules.specs.declared.answer.Outcome.{Outcome}
-use Rattle.rules.specs.declared.answer.Outcome.TheVariants.{Stepped, StepRefused}
-use Rattle.rules.specs.declared.answer.Verdict.{Verdict}
-use Rattle.rules.specs.declared.answer.Verdict.TheVariants.{Accepted, Refused}
+use Rattle.rules.specs.Verdicts.{Outcome, Stepped, StepRefused, Verdict, Accepted, Refused}
 use Rattle.rules.specs.declared.site.Site.{Site}
 use Rattle.rules.specs.declared.site.Times.{Times}
 use Rattle.rules.specs.Personality.{verdict_of}
@@ -51,8 +49,8 @@ module _ (b : List ℕ) where
 
   next-own : (v : Verdict) (s : TimedState) (inputs : ℕ) → OwnTimes s → OwnTimes (handed_back v (timed_stepped site s inputs) s)
   unfolding handed_back
-  next-own Accepted s inputs own = stepped-own s inputs own
-  next-own (Refused number place) s inputs own = own
+  next-own (Ok _) s inputs own = stepped-own s inputs own
+  next-own (Err r) s inputs own = own
 
   taken_own : (calls : List StepCall) (s : TimedState) → OwnTimes s → Each (λ call later. OwnTaken call) (taken_from by_rules b s (map step_call calls))
   unfolding taken_from by_rules OwnTaken
@@ -71,8 +69,8 @@ module _ (b : List ℕ) where
           (outcome : Outcome) →
           Each (λ step later. OwnStep step) (accepted_steps later) →
           Each (λ step later. OwnStep step) (if_accepted outcome step (accepted_steps later))
-      by (Stepped wait) rest = (own.0, rest)
-      by (StepRefused number place) rest = rest
+      by (Ok wait) rest = (own.0, rest)
+      by (Err r) rest = rest
 
   rest-own : (earlier later : List Step) → Each (λ step later. OwnStep step) (earlier ++ later) → Each (λ step later. OwnStep step) later
   rest-own [] later own = own

@@ -1,6 +1,6 @@
 -- Demand 3 read at the junction of two phases of document 01, for lists of step calls: what it says of a real site, in numbers.
 use Rattle.std.specs.Prelude.{◌≤◌, ◌<◌, true, List, ◌∷◌, ◌++◌, map, ◌≡◌, length}
-use Rattle.rules.specs.declared.answer.Outcome.TheVariants.{Stepped}
+use Rattle.rules.specs.Verdicts.{Stepped}
 use Rattle.rules.specs.Site.{site_of}
 use Rattle.rules.specs.Colours.{green}
 use Rattle.rules.specs.Runs.{by_rules, StepCall, step_call, Step, Taken, step_taken, taken_from, accepted_steps}

@@ -1,12 +1,12 @@
 -- Forgetting the kept set gives the scanning step. In a valid state both searches find the same phase, so a step does the same to the rest of
 -- the state, and the set that it leaves is the scan of the demands that it leaves.
+use Rattle.std.specs.Prelude.{Option}
 use Prim.Native.Nat.{ℕ, ◌<◌}
 use mathlib.Core.Bool.{true, false, not, ◌&&◌}
 use mathlib.Core.Path.{◌≡◌, sym, ap, ◌∙◌}
 use native.Mathlib.Omega.{arith}
 use Rattle.rules.specs.declared.site.Site.{Site}
 use Rattle.rules.specs.declared.state.Demands.{Demands}
-use Rattle.rules.specs.declared.state.Held.{Held}
 use Rattle.rules.specs.declared.state.KeptState.{KeptState}
 use Rattle.laws.specs.Bytes.{bit}
 use Rattle.laws.specs.Folds.{set_of, sum_of}
@@ -31,7 +31,7 @@ pub stepped_same :
     kept_valid site s ≡ true →
     (kept_stepped site s inputs).core ≡ stepped site s.core inputs
 unfolding kept_stepped stepped stepped_to
-stepped_same site sound s inputs v = ap (λ (next : Held). stepped_to next site s.core inputs) (next-kept site sound s inputs v)
+stepped_same site sound s inputs v = ap (λ (next : Option ℕ). stepped_to next site s.core inputs) (next-kept site sound s inputs v)
 
 -- ── A step keeps the set true ──
 

@@ -7,13 +7,11 @@ use lib.Dec.{eqb, leb}
 use borrow.Author.Tests.{eqb-true, eq-eqb, lt-leb, le-leb}
 use Rattle.rules.specs.declared.site.Site.{Site}
 use Rattle.rules.specs.declared.site.Times.{Times}
-use Rattle.rules.specs.declared.state.Held.{Held}
-use Rattle.rules.specs.declared.state.Held.TheVariants.{Nothing}
 use Rattle.rules.specs.declared.state.Interval.{Interval}
 use Rattle.rules.specs.declared.state.Interval.TheVariants.{StartRed, LateStart, MinimumGreen, Running, EarlyCutOff, Yellow, AllRed}
 use Rattle.rules.specs.declared.state.Position.{Position}
 use Rattle.rules.specs.declared.state.State.{State}
-use Rattle.std.specs.Prelude.{if◌then◌else◌}
+use Rattle.std.specs.Prelude.{if◌then◌else◌, Option, None}
 use Rattle.rules.specs.Site.{phase_times}
 use Rattle.rules.specs.IntervalTable.{is_minimum_green}
 use Rattle.rules.specs.State.{highest_age}
@@ -47,7 +45,7 @@ unfolding in_minimum_green
 in-minimum p steps s here = and_both (eq-eqb s.position.phase p here.phase) (ap is_minimum_green here.interval)
 
 -- what follows an interval has age 1
-follows-young : (i : Interval) (times : Times) (next : Held) (position : Position) → (following i times next position).age ≡ 1
+follows-young : (i : Interval) (times : Times) (next : Option ℕ) (position : Position) → (following i times next position).age ≡ 1
 unfolding following starting entering leaving
 follows-young StartRed times next position = refl
 follows-young LateStart times next position = refl
@@ -87,7 +85,7 @@ module _ (site : Site) (s : State) (step : Step) (link : ValidLink site s step) 
     reached = (phase-timed site link.sound p (rw here.phase at link.here.phase)).minimum.1
 
     position-after :
-        (t : Bool) → leb minimum steps ≡ t → step.after.position ≡ (if t then entering Running Nothing s.position else staying s.position)
+        (t : Bool) → leb minimum steps ≡ t → step.after.position ≡ (if t then entering Running None s.position else staying s.position)
     unfolding ends following
     position-after t e =
         ap (λ (t : State). t.position) link.taken.after

@@ -1,5 +1,6 @@
 -- The colours of a step are those of the state after it. In minimum green and running a vehicle group of the phase is green whatever its mark, and the
 -- group of a movement in walk is green.
+use Rattle.std.specs.Prelude.{Option}
 use Prim.Native.Nat.{ℕ, ◌<◌}
 use mathlib.Core.Bool.{Bool, true, false, ◌&&◌, ◌||◌, false≢true}
 use mathlib.Core.Path.{◌≡◌, refl, ◌∙◌}
@@ -7,7 +8,6 @@ use lib.Dec.{eqb, ltb}
 use borrow.Author.Tests.{ltb-true, eqb-true, eq-eqb, not-true}
 use Rattle.rules.specs.declared.site.Group.{Group}
 use Rattle.rules.specs.declared.site.Site.{Site}
-use Rattle.rules.specs.declared.state.Held.{Held}
 use Rattle.rules.specs.declared.state.Interval.{Interval}
 use Rattle.rules.specs.declared.state.Interval.TheVariants.{StartRed, LateStart, MinimumGreen, Running, EarlyCutOff, Yellow, AllRed}
 use Rattle.rules.specs.declared.state.Stage.{Stage}
@@ -35,7 +35,7 @@ pub record ShownAfter (site : Site) (step : Step) : Type 0 where
 -- ── Colours ──
 
 vehicle-green :
-    (i : Interval) (closes : Bool) (previous target : Held) (group : Group) →
+    (i : Interval) (closes : Bool) (previous target : Option ℕ) (group : Group) →
     (is_minimum_green i || is_running i) ≡ true →
     vehicle_colour i closes previous target group ≡ green
 unfolding vehicle_colour

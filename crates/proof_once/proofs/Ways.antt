@@ -10,13 +10,11 @@ use native.Mathlib.Omega.{arith}
 use lib.Dec.{eqb}
 use Rattle.rules.specs.declared.site.Site.{Site}
 use Rattle.rules.specs.declared.site.Times.{Times}
-use Rattle.rules.specs.declared.state.Held.{Held}
-use Rattle.rules.specs.declared.state.Held.TheVariants.{Nothing, Phase}
 use Rattle.rules.specs.declared.state.Interval.{Interval}
 use Rattle.rules.specs.declared.state.Interval.TheVariants.{StartRed, LateStart, MinimumGreen, Running, EarlyCutOff, Yellow, AllRed}
 use Rattle.rules.specs.declared.state.Position.{Position}
 use Rattle.rules.specs.declared.state.State.{State}
-use Rattle.std.specs.Prelude.{if◌then◌else◌}
+use Rattle.std.specs.Prelude.{if◌then◌else◌, Option, Some, None}
 use Rattle.rules.specs.Site.{phase_times}
 use Rattle.rules.specs.IntervalTable.{is_before_start, is_leaving, phase_held}
 use Rattle.rules.specs.Demands.{demanded, next_demanded}
@@ -66,7 +64,7 @@ module _ (phases : List ℕ) (q : ℕ) where
   other-some t other = omega (arith, ahead_apart one phases q 1 t other, onward-some one phases q 1 t)
 
   -- in an interval of a phase
-  unfoldable pub starts_in : Interval → ℕ → Held → ℕ
+  unfoldable pub starts_in : Interval → ℕ → Option ℕ → ℕ
   starts_in StartRed phase target = from_start phase
   starts_in LateStart phase target = from_end phase
   starts_in MinimumGreen phase target = from_end phase
@@ -97,7 +95,7 @@ module _ (phases : List ℕ) (q : ℕ) where
 
   -- phase t starts
   one-starts :
-      (i : Interval) (position : Position) (times : Times) (t : ℕ) (previous : Held) →
+      (i : Interval) (position : Position) (times : Times) (t : ℕ) (previous : Option ℕ) →
       is_before_start i ≡ true →
       starts_in i position.phase position.target ≡ from_start t →
       Way i position (starting times t previous)
@@ -106,18 +104,18 @@ module _ (phases : List ℕ) (q : ℕ) where
     where
       by :
           (b : Bool) →
-          Way i position (record { phase = t; interval = if b then MinimumGreen else LateStart; age = 1; previous = previous; target = Nothing })
+          Way i position (record { phase = t; interval = if b then MinimumGreen else LateStart; age = 1; previous = previous; target = None })
       by true = record { starts = λ h. (e, refl); quiet = λ h. absurd (never_both (rw before) h) }
       by false = record { starts = λ h. (e, refl); quiet = λ h. absurd (never_both (rw before) h) }
 
   following-way :
-      (i : Interval) (times : Times) (next : Held) (position : Position) →
+      (i : Interval) (times : Times) (next : Option ℕ) (position : Position) →
       (i ≡ Running → from_start (phase_held next) ≤ from_end position.phase) →
       Way i position (following i times next position)
   unfolding following entering starts_in is_first
   following-way StartRed times next position near = one-starts StartRed position times position.phase position.previous refl refl
-  following-way LateStart times next position near = none-starts LateStart position (entering MinimumGreen Nothing position) refl (omega arith)
-  following-way MinimumGreen times next position near = none-starts MinimumGreen position (entering Running Nothing position) refl (omega arith)
+  following-way LateStart times next position near = none-starts LateStart position (entering MinimumGreen None position) refl (omega arith)
+  following-way MinimumGreen times next position near = none-starts MinimumGreen position (entering Running None position) refl (omega arith)
   following-way Running times next position near =
       by-early (λ (p : Position). Way Running position p) times next position
       (λ skipped. none-starts Running position (entering Yellow next position) refl (near refl))
@@ -126,7 +124,7 @@ module _ (phases : List ℕ) (q : ℕ) where
       none-starts EarlyCutOff position (entering Yellow position.target position) refl (omega arith)
   following-way Yellow times next position near = none-starts Yellow position (entering AllRed position.target position) refl (omega arith)
   following-way AllRed times next position near =
-      one-starts AllRed position times (phase_held position.target) (Phase position.phase) refl refl
+      one-starts AllRed position times (phase_held position.target) (Some position.phase) refl refl
 
   staying-way : (position : Position) → Way position.interval position (staying position)
   unfolding staying

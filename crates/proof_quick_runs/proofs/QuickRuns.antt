@@ -5,17 +5,14 @@ use mathlib.Core.Bool.{Bool, true, false, not, ◌&&◌}
 use mathlib.Core.List.{List, [], ◌∷◌}
 use mathlib.Core.Path.{◌≡◌, refl, ap, ◌∙◌}
 use lib.ListN.{length}
-use Rattle.std.specs.Prelude.{if◌then◌else◌}
-use Rattle.rules.specs.declared.answer.Verdict.{Verdict}
-use Rattle.rules.specs.declared.answer.Verdict.TheVariants.{Accepted, Refused}
+use Rattle.std.specs.Prelude.{if◌then◌else◌, Option, Ok, Err}
+use Rattle.rules.specs.Verdicts.{Verdict, Accepted, Refused, ◌or_else◌, refuse_if}
 use Rattle.rules.specs.declared.site.Site.{Site}
 use Rattle.rules.specs.declared.site.Times.{Times}
-use Rattle.rules.specs.declared.state.Held.{Held}
 use Rattle.rules.specs.declared.state.State.{State}
 use Rattle.rules.specs.Personality.{verdict_of}
 use Rattle.rules.specs.Kept.{kept_valid}
 use Rattle.rules.specs.WaitBound.{wait_bound}
-use Rattle.rules.specs.Verdicts.{◌or_else◌, refuse_if}
 use Rattle.rules.specs.Site.{site_of, times_in}
 use Rattle.rules.specs.SiteTimes.{admitted}
 use Rattle.rules.specs.Timed.{TimedState, Waiting, kept_of, ruled_site, none_waiting, fresh_timed, waiting_valid, timed_valid, takes_over, ruling_next, timed_stepped}
@@ -73,7 +70,7 @@ module _ (site : Site) (none : waiting_valid site none_waiting ≡ true) where
   unfolding timed_stepped ruling_next takes_over
   timed-keeps s inputs fit = over s.ruling s.waiting _ fit
 
-  pub finding-keeps : (find : Site → State → ℕ → Held) → Keeps site (stepped_finding find)
+  pub finding-keeps : (find : Site → State → ℕ → Option ℕ) → Keeps site (stepped_finding find)
   unfolding stepped_finding ruling_next takes_over
   finding-keeps find s inputs fit = over s.ruling s.waiting _ fit
 
@@ -122,8 +119,8 @@ module _
         times_fit (site_of b) old ≡ true →
         times_fit (site_of b) (handed_back v new old) ≡ true
     unfolding handed_back
-    handed-fits Accepted new old after before = after
-    handed-fits (Refused number place) new old after before = before
+    handed-fits (Ok _) new old after before = after
+    handed-fits (Err r) new old after before = before
 
     test-same : (s : TimedState) → times_fit (site_of b) s ≡ true → (times_fit (site_of b) s && rest (site_of b) s) ≡ rest (site_of b) s
     test-same s fit = rw fit refl

@@ -10,12 +10,9 @@ use lib.Dec.{eqb, leb, ltb}
 use lib.ListN.{length, get_or, take, drop, length-map, get_or-eq_default}
 use lib.Seq.{split_at}
 use borrow.Author.Tests.{ltb-true, leb-true}
-use Rattle.std.specs.Prelude.{if◌then◌else◌}
+use Rattle.std.specs.Prelude.{if◌then◌else◌, Ok, Err}
 use Rattle.laws.specs.Folds.{list_of}
-use Rattle.rules.specs.declared.answer.Outcome.{Outcome}
-use Rattle.rules.specs.declared.answer.Outcome.TheVariants.{Stepped, StepRefused}
-use Rattle.rules.specs.declared.answer.Verdict.{Verdict}
-use Rattle.rules.specs.declared.answer.Verdict.TheVariants.{Accepted}
+use Rattle.rules.specs.Verdicts.{Outcome, Stepped, StepRefused, Verdict, Accepted}
 use Rattle.rules.specs.declared.site.Site.{Site}
 use Rattle.rules.specs.declared.site.Times.{Times}
 use Rattle.rules.specs.declared.state.State.{State}
@@ -82,8 +79,8 @@ module _ (colour : Site → Times → State → ℕ → ℕ) where
           (outcome : Outcome) →
           accepted_steps (map (taken_coloured site) later) ≡ map (coloured site) (accepted_steps later) →
           if_accepted outcome (coloured site step) (accepted_steps (map (taken_coloured site) later)) ≡ map (coloured site) (if_accepted outcome step (accepted_steps later))
-      by (Stepped wait) rest = ap (λ (later : List Step). coloured site step ∷ later) rest
-      by (StepRefused number place) rest = rest
+      by (Ok wait) rest = ap (λ (later : List Step). coloured site step ∷ later) rest
+      by (Err r) rest = rest
   accepted-coloured site (retime_taken new verdict ∷ later) = accepted-coloured site later
 
 -- ── A list that is a map, cut ──

@@ -5,7 +5,7 @@ use mathlib.Core.List.{List, map}
 use mathlib.Core.Path.{◌≡◌, refl}
 use lib.Dec.{eqb, leb}
 use Rattle.std.specs.Prelude.{if◌then◌else◌}
-use Rattle.rules.specs.declared.answer.Verdict.{Verdict}
+use Rattle.rules.specs.Verdicts.{Verdict}
 use Rattle.rules.specs.declared.site.Site.{Site}
 use Rattle.rules.specs.declared.site.Times.{Times}
 use Rattle.rules.specs.declared.state.Interval.{Interval}

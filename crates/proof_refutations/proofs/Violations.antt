@@ -10,17 +10,14 @@ use lib.Dec.{leb, ltb, eqb}
 use lib.ListN.{length, get_or, take, drop, replicate, length-append, length-replicate, length-map, get_or-replicate, get_or-append}
 use lib.Seq.{split_at}
 use Rattle.rules.specs.declared.site.Site.{Site}
-use Rattle.rules.specs.declared.answer.Outcome.{Outcome}
-use Rattle.rules.specs.declared.answer.Outcome.TheVariants.{Stepped, StepRefused}
-use Rattle.rules.specs.declared.answer.Verdict.{Verdict}
-use Rattle.rules.specs.declared.answer.Verdict.TheVariants.{Accepted}
+use Rattle.rules.specs.Verdicts.{Outcome, Stepped, StepRefused, Verdict, Accepted, ◌or_else◌, refuse_if}
+use Rattle.rules.specs.declared.answer.Refusal.{Refusal}
 use Rattle.rules.specs.Site.{site_of, phase_times, walk_times, crosses, is_pedestrian, movement_of, conflict}
 use Rattle.rules.specs.SiteTimes.{no_times}
 use Rattle.rules.specs.State.{fresh}
 use Rattle.rules.specs.Colours.{red, yellow, green, flashing}
 use Rattle.rules.specs.WaitBound.{wait_bound}
 use Rattle.rules.specs.Waits.{phase_wait, movement_wait}
-use Rattle.rules.specs.Verdicts.{◌or_else◌, refuse_if}
 use Rattle.rules.specs.Call.{bound_for}
 use Rattle.rules.specs.TimedCall.{differs_elsewhere}
 use Rattle.rules.specs.Runs.{Controller, Call, StepCall, step_call, Step, Taken, step_taken, retime_taken, taken_from, accepted_steps, site_after, OfEveryRun}
@@ -72,7 +69,9 @@ declined-not-stepped h = let z : ◌≡◌ {A = ℕ} 0 1 = cc in omega arith
 
 -- refusals that are the same have the same number and place
 refused-same : {number place other at : ℕ} → StepRefused number place ≡ StepRefused other at → number + place ≡ other + at
-refused-same {number} {place} {other} {at} h = let z : number ≡ other = cc in let w : place ≡ at = cc in omega (arith, z, w)
+refused-same {number} {place} {other} {at} h =
+    let same : ◌≡◌ {A = Refusal} (record { number = number; place = place }) (record { number = other; place = at }) = cc in
+    ap (λ (r : Refusal). r.number + r.place) same
 
 stepped_same : {wait other : ℕ} → Stepped wait ≡ Stepped other → wait ≡ other
 stepped_same {wait} {other} h = let z : wait ≡ other = cc in z

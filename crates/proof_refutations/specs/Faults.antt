@@ -1,17 +1,12 @@
 -- Controllers that must not pass. Each but one is the controller of the scanning rules with its verdict, its step, its wait, its search for the next
 -- phase, its answers or its colours replaced. For the same calls the scanning rules answer as the rules do (`RunForgets`). The one of `retiming` is the
 -- controller of the rules with its retiming replaced.
-use Rattle.std.specs.Prelude.{ℕ, ◌+◌, ◌-◌, ◌^◌, Bool, not, ◌&&◌, ◌||◌, List, map, eqb, leb, if◌then◌else◌}
-use Rattle.rules.specs.declared.answer.Outcome.{Outcome}
-use Rattle.rules.specs.declared.answer.Outcome.TheVariants.{Stepped, StepRefused}
-use Rattle.rules.specs.declared.answer.Verdict.{Verdict}
-use Rattle.rules.specs.declared.answer.Verdict.TheVariants.{Accepted, Refused}
+use Rattle.std.specs.Prelude.{ℕ, ◌+◌, ◌-◌, ◌^◌, Bool, not, ◌&&◌, ◌||◌, List, map, eqb, leb, if◌then◌else◌, Option, Some, None, Ok, Err}
+use Rattle.rules.specs.Verdicts.{Outcome, Stepped, StepRefused, Verdict, Accepted, Refused}
 use Rattle.rules.specs.declared.site.Site.{Site}
 use Rattle.rules.specs.declared.site.Times.{Times}
 use Rattle.rules.specs.declared.state.Counts.{Counts}
 use Rattle.rules.specs.declared.state.Demands.{Demands}
-use Rattle.rules.specs.declared.state.Held.{Held}
-use Rattle.rules.specs.declared.state.Held.TheVariants.{Nothing, Phase}
 use Rattle.rules.specs.declared.state.Interval.{Interval}
 use Rattle.rules.specs.declared.state.Interval.TheVariants.{StartRed, LateStart, EarlyCutOff, Yellow, AllRed}
 use Rattle.rules.specs.declared.state.Movement.{Movement}
@@ -42,8 +37,8 @@ faulty verdict step wait = controller_of verdict scan_valid step wait retimed
 
 -- number 10 is passed over: conflicting groups may share a phase
 unfoldable pub passed : Verdict → Verdict
-passed Accepted = Accepted
-passed (Refused number place) = if eqb number 10 then Accepted else Refused number place
+passed (Ok _) = Accepted
+passed (Err r) = if eqb r.number 10 then Accepted else Refused r.number r.place
 
 unfoldable pub passes_ten : List ℕ → Verdict
 passes_ten b = passed (verdict_of b)
@@ -92,7 +87,7 @@ stays_late site s inputs =
 -- to a phase that the site doesn't have; the next call then finds no valid state
 unfoldable pub leaves_the_site : Site → TimedState → ℕ → TimedState
 leaves_the_site site s inputs =
-    moved s (record { phase = site.size.phases; interval = StartRed; age = 1; previous = Nothing; target = Nothing })
+    moved s (record { phase = site.size.phases; interval = StartRed; age = 1; previous = None; target = None })
 
 -- ── Steps that are wrong: part 4 ──
 
@@ -214,20 +209,20 @@ answering outcome verdict =
 -- for refusals with one number: another number, and another place
 module _ (number given at : ℕ) where
   unfoldable pub step_told : Outcome → Outcome
-  step_told (Stepped wait) = Stepped wait
-  step_told (StepRefused n place) = if eqb n number then StepRefused given at else StepRefused n place
+  step_told (Ok wait) = Stepped wait
+  step_told (Err r) = if eqb r.number number then StepRefused given at else StepRefused r.number r.place
 
   unfoldable pub retime_told : Verdict → Verdict
-  retime_told Accepted = Accepted
-  retime_told (Refused n place) = if eqb n number then Refused given at else Refused n place
+  retime_told (Ok _) = Accepted
+  retime_told (Err r) = if eqb r.number number then Refused given at else Refused r.number r.place
 
   abbrev pub mistells : Controller TimedState
   mistells = answering (λ b outcome. step_told outcome) retime_told
 
 -- the wait bound of the personality, whatever times rule
 unfoldable pub own_bound : List ℕ → Outcome → Outcome
-own_bound b (Stepped wait) = Stepped (wait_bound (site_of b))
-own_bound b (StepRefused number place) = StepRefused number place
+own_bound b (Ok wait) = Stepped (wait_bound (site_of b))
+own_bound b (Err r) = StepRefused r.number r.place
 
 -- ── Colours that are wrong: the state is that of the scanning rules ──
 
@@ -250,23 +245,23 @@ painting colour other =
 -- ── Searches for the next phase that are wrong; `scanning` is `finding next_demanded` ──
 
 -- none: every other demand stays unread
-unfoldable pub unread : Site → State → ℕ → Held
-unread site s inputs = Nothing
+unfoldable pub unread : Site → State → ℕ → Option ℕ
+unread site s inputs = None
 
 -- another phase that is demanded
 unfoldable pub demanded_else : Site → State → ℕ → ℕ → Bool
 demanded_else site s inputs p = demanded site s inputs p && not (eqb p s.position.phase)
 
 -- the first of the order, counted from its beginning
-unfoldable pub from_the_beginning : Site → State → ℕ → Held
+unfoldable pub from_the_beginning : Site → State → ℕ → Option ℕ
 from_the_beginning site s inputs = first_in (demanded_else site s inputs) (ring site.order site.size.phases)
 
 -- came-from, if that is demanded
-unfoldable pub back_to : Held → Site → State → ℕ → Held
-back_to Nothing site s inputs = next_demanded site s inputs
-back_to (Phase p) site s inputs = if demanded_else site s inputs p then Phase p else next_demanded site s inputs
+unfoldable pub back_to : Option ℕ → Site → State → ℕ → Option ℕ
+back_to None site s inputs = next_demanded site s inputs
+back_to (Some p) site s inputs = if demanded_else site s inputs p then Some p else next_demanded site s inputs
 
-unfoldable pub goes_back : Site → State → ℕ → Held
+unfoldable pub goes_back : Site → State → ℕ → Option ℕ
 goes_back site s inputs = back_to s.position.previous site s inputs
 
 -- ── A retiming call that is wrong ──

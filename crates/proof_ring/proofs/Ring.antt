@@ -10,8 +10,7 @@ use native.Mathlib.Omega.{arith}
 use borrow.Author.Tests.{eqb-true, eqb-false, eq-eqb, ne_eqb}
 use lib.Dec.{eqb}
 use lib.ListN.{length}
-use Rattle.rules.specs.declared.state.Held.TheVariants.{Phase}
-use Rattle.std.specs.Prelude.{if◌then◌else◌}
+use Rattle.std.specs.Prelude.{if◌then◌else◌, Some}
 use Rattle.laws.specs.Folds.{sum_of}
 use Rattle.rules.specs.IntervalTable.{is_held}
 use Rattle.rules.specs.Demands.{after, before, first_in}
@@ -49,7 +48,7 @@ ring-sum f (suc n) ring ofn =
 
 -- ── The search ──
 
-found_in : (d : ℕ → Bool) (l : List ℕ) {t : ℕ} → first_in d l ≡ Phase t → In t l × (d t ≡ true)
+found_in : (d : ℕ → Bool) (l : List ℕ) {t : ℕ} → first_in d l ≡ Some t → In t l × (d t ≡ true)
 unfolding first_in
 found_in d [] e = absurd (let z : ◌≡◌ {A = ℕ} 0 1 = cc in omega arith)
 found_in d (x ∷ l) {t} e =
@@ -104,7 +103,7 @@ stops-before :
     (f : ℕ → ℕ) (d : ℕ → Bool) {q t : ℕ} (l m : List ℕ) →
     In q l →
     d q ≡ true →
-    first_in d l ≡ Phase t →
+    first_in d l ≡ Some t →
     (t ≡ q → ⊥) →
     f t + along f q (after t l ++ m) ≤ along f q l
 unfolding along first_in total after before
@@ -116,7 +115,7 @@ stops-before f d {q} {t} (x ∷ l) m i h e ne =
     let other : x ≡ q → ⊥ = λ r. ne (sym same ∙ r) in
     rw (eq-eqb x t same, ne_eqb x q other, (in-front m (later-in i other)).0) (omega (arith, ap f same)))
     (λ (a : d x ≡ false).
-    let further : first_in d l ≡ Phase t = rw a at e in
+    let further : first_in d l ≡ Some t = rw a at e in
     let other : x ≡ q → ⊥ = λ r. never_both h (rw r at a) in
     rw (ne_eqb x t (λ r. never_both (found_in d l further).1 (rw r at a)), ne_eqb x q other)
     (omega (arith, stops-before f d l m (later-in i other) h further ne)))
@@ -124,12 +123,12 @@ stops-before f d {q} {t} (x ∷ l) m i h e ne =
 
 -- of two phases, one of which stands in the first list and the other does not, the search finds that one
 first_of :
-    (t q : ℕ) (l m : List ℕ) → In t l → places q l ≡ 0 → first_in (λ x. eqb x t || eqb x q) (l ++ m) ≡ Phase t
+    (t q : ℕ) (l m : List ℕ) → In t l → places q l ≡ 0 → first_in (λ x. eqb x t || eqb x q) (l ++ m) ≡ Some t
 unfolding first_in total
 first_of t q [] m i none = absurd (in-none i)
 first_of t q (x ∷ l) m i none =
     ⊎_elim
-    (λ (e : eqb x t ≡ true). rw e (ap Phase (eqb-true x t e)))
+    (λ (e : eqb x t ≡ true). rw e (ap Some (eqb-true x t e)))
     (λ (e : eqb x t ≡ false).
     rw (e, ne_eqb x q (λ r. omega (arith, one-own q, ap (one q) r)))
     (first_of t q l m (later-in i (eqb-false x t e)) (omega arith)))
@@ -153,7 +152,7 @@ module _ {n : ℕ} {ring : List ℕ} (ofn : RingOf n ring) where
   -- ── The search from a phase on ──
 
   -- what it finds is a phase, and another one
-  pub found-other : (d : ℕ → Bool) {p t : ℕ} → first_in d (turn ring p) ≡ Phase t → (t < n) × (t ≡ p → ⊥)
+  pub found-other : (d : ℕ → Bool) {p t : ℕ} → first_in d (turn ring p) ≡ Some t → (t < n) × (t ≡ p → ⊥)
   found-other d {p} {t} e =
       let found = (found_in d (turn ring p) e).0 in
       let here : t < n = below (record { found = omega (arith, turn-keeps (one t) ring p, found.found) }) in
@@ -202,7 +201,7 @@ module _ {n : ℕ} {ring : List ℕ} (ofn : RingOf n ring) where
         (p ≡ q → ⊥) →
         (d : ℕ → Bool) →
         d q ≡ true →
-        first_in d (turn ring p) ≡ Phase t →
+        first_in d (turn ring p) ≡ Some t →
         (t ≡ q → ⊥) →
         f t + rest f ring q t ≤ rest f ring q p
     unfolding rest
@@ -217,7 +216,7 @@ module _ {n : ℕ} {ring : List ℕ} (ofn : RingOf n ring) where
         p < n →
         (d : ℕ → Bool) →
         d q ≡ true →
-        first_in d (turn ring p) ≡ Phase t →
+        first_in d (turn ring p) ≡ Some t →
         from f ring q t ≤ rest f ring q p
     nearer {p} {t} hp d h e =
         ⊎_elim
@@ -233,13 +232,13 @@ module _ {n : ℕ} {ring : List ℕ} (ofn : RingOf n ring) where
     past :
         {r t : ℕ} (k : List ℕ) →
         turn ring q ≡ k →
-        first_in (λ x. true) k ≡ Phase r →
+        first_in (λ x. true) k ≡ Some r →
         r < n →
         (r ≡ q → ⊥) →
         t < n →
         (t ≡ r → ⊥) →
         (t ≡ q → ⊥) →
-        first_in (λ x. eqb x t || eqb x q) (turn ring r) ≡ Phase t
+        first_in (λ x. eqb x t || eqb x q) (turn ring r) ≡ Some t
     unfolding first_in total after before
     past [] same e hr rq ht ne apart = absurd (let z : ◌≡◌ {A = ℕ} 0 1 = cc in omega arith)
     past {r} {t} (x ∷ l) same e hr rq ht ne apart =
@@ -251,7 +250,7 @@ module _ {n : ℕ} {ring : List ℕ} (ofn : RingOf n ring) where
 
     pub from_past :
         {r t : ℕ} →
-        first_in (λ x. true) (turn ring q) ≡ Phase r →
+        first_in (λ x. true) (turn ring q) ≡ Some r →
         t < n →
         (t ≡ r → ⊥) →
         f r + from f ring q t + f q ≤ sum_of f n

@@ -7,10 +7,9 @@ use mathlib.Core.Path.{◌≡◌, sym, subst, ◌∙◌}
 use borrow.Author.Tests.{not-false}
 use lib.Dec.{ltb}
 use lib.ListN.{get_or, get_or-append}
-use Rattle.rules.specs.declared.answer.Verdict.TheVariants.{Accepted}
+use Rattle.rules.specs.Verdicts.{Accepted, refuse_if, ◌or_else◌}
 use Rattle.rules.specs.declared.site.Site.{Site}
 use Rattle.rules.specs.declared.state.State.{State}
-use Rattle.rules.specs.Verdicts.{refuse_if, ◌or_else◌}
 use Rattle.rules.specs.Personality.{verdict_of}
 use Rattle.rules.specs.Site.{site_of}
 use Rattle.rules.specs.Step.{stepped}

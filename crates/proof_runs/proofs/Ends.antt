@@ -7,13 +7,12 @@ use lib.ListN.{get_or}
 use borrow.Author.Tests.{eqb-true, eqb-false}
 use Rattle.rules.specs.declared.site.Site.{Site}
 use Rattle.rules.specs.declared.site.Times.{Times}
-use Rattle.rules.specs.declared.state.Held.{Held}
 use Rattle.rules.specs.declared.state.Interval.{Interval}
 use Rattle.rules.specs.declared.state.Interval.TheVariants.{Running, EarlyCutOff, Yellow}
 use Rattle.rules.specs.declared.state.Position.{Position}
 use Rattle.rules.specs.declared.state.Stage.{Stage}
 use Rattle.rules.specs.declared.state.State.{State}
-use Rattle.std.specs.Prelude.{if◌then◌else◌}
+use Rattle.std.specs.Prelude.{if◌then◌else◌, Option}
 use Rattle.rules.specs.Site.{phase_times}
 use Rattle.rules.specs.IntervalTable.{is_walk_or_first, is_before_start}
 use Rattle.rules.specs.State.{idle}
@@ -26,7 +25,7 @@ use Rattle.proof_runs.proofs.Steps.{times_now, another, counted, moving, ended, 
 
 -- what holds of the position where running ends, by whether the phase has early cut-off green
 pub by-early :
-    (P : Position → Type 0) (times : Times) (next : Held) (position : Position) →
+    (P : Position → Type 0) (times : Times) (next : Option ℕ) (position : Position) →
     ((phase_times times position.phase).early ≡ 0 → P (entering Yellow next position)) →
     (((phase_times times position.phase).early ≡ 0 → ⊥) → P (entering EarlyCutOff next position)) →
     P (leaving times next position)

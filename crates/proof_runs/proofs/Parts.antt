@@ -1,9 +1,9 @@
 -- A run in two parts: the later calls are taken from the state that the earlier ones hand back.
+use Rattle.std.specs.Prelude.{Ok, Err}
 use Prim.Native.Nat.{ℕ}
 use mathlib.Core.List.{List, [], ◌∷◌, ◌++◌}
 use mathlib.Core.Path.{◌≡◌, refl, ap, ◌∙◌}
-use Rattle.rules.specs.declared.answer.Outcome.{Outcome}
-use Rattle.rules.specs.declared.answer.Outcome.TheVariants.{Stepped, StepRefused}
+use Rattle.rules.specs.Verdicts.{Outcome, Stepped, StepRefused}
 use Rattle.rules.specs.Runs.{Controller, Call, step_call, retime_call, Step, Taken, step_taken, retime_taken, next_of, step_of, taken_from, left_by, if_accepted, accepted_steps}
 
 module _ {S : Type 0} (controller : Controller S) (b : List ℕ) where
@@ -31,5 +31,5 @@ accepted-on (step_taken step ∷ calls) later =
     ap (if_accepted step.outcome step) (accepted-on calls later) ∙ by step.outcome (accepted_steps calls) (accepted_steps later)
   where
     by : (outcome : Outcome) (some more : List Step) → if_accepted outcome step (some ++ more) ≡ if_accepted outcome step some ++ more
-    by (Stepped wait) some more = refl
-    by (StepRefused number place) some more = refl
+    by (Ok wait) some more = refl
+    by (Err r) some more = refl

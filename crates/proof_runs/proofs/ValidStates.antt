@@ -1,4 +1,5 @@
 -- A valid state, read clause by clause: each field is what one clause of the definition tells, and the fields together give it back.
+use Rattle.std.specs.Prelude.{Option, Some, None}
 use Prim.Native.Nat.{ℕ, ◌≤◌, ◌<◌}
 use mathlib.Core.Bool.{Bool, true, false, not, ◌&&◌, ◌||◌, true≢false}
 use mathlib.Core.List.{[], ◌∷◌}
@@ -6,8 +7,6 @@ use mathlib.Core.Path.{◌≡◌, sym, ◌∙◌}
 use lib.Dec.{leb, ltb, eqb}
 use borrow.Author.Tests.{ltb-true, leb-true, eqb-true, lt-ltb, le-leb, eq-eqb}
 use Rattle.rules.specs.declared.site.Site.{Site}
-use Rattle.rules.specs.declared.state.Held.{Held}
-use Rattle.rules.specs.declared.state.Held.TheVariants.{Nothing, Phase}
 use Rattle.rules.specs.declared.state.Movement.{Movement}
 use Rattle.rules.specs.declared.state.Position.{Position}
 use Rattle.rules.specs.declared.state.State.{State}
@@ -172,10 +171,10 @@ state-holds site s v =
 -- ── The target ──
 
 -- the target of a phase that is being left exists
-pub target_below : (count phase : ℕ) (target : Held) → target_valid count phase true target ≡ true → phase_held target < count
+pub target_below : (count phase : ℕ) (target : Option ℕ) → target_valid count phase true target ≡ true → phase_held target < count
 unfolding target_valid phase_held
-target_below count phase Nothing h = absurd (true≢false (sym h))
-target_below count phase (Phase t) h = ltb-true t count (and_left (ltb t count) (not (eqb t phase)) h)
+target_below count phase None h = absurd (true≢false (sym h))
+target_below count phase (Some t) h = ltb-true t count (and_left (ltb t count) (not (eqb t phase)) h)
 
 pub leaving-target :
     (site : Site) (s : State) → ValidState site s → is_leaving s.position.interval ≡ true → phase_held s.position.target < site.size.phases

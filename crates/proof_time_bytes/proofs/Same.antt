@@ -13,21 +13,16 @@ use Rattle.rules.specs.declared.site.Range.{Range}
 use Rattle.std.specs.Prelude.{if◌then◌else◌}
 use Rattle.laws.specs.Folds.{count_of, row_of, indices_of}
 use Rattle.laws.specs.Bytes.{byte_at, two_at, four_at, bit}
-use Rattle.rules.specs.Personality.{body_length, kind_at, body_at, record_at, site_kind, edition_of, phase_count, group_count, groups_head, conflicts_head, detectors_head, pedestrians_head, past_section, has_head, early_head, has_early, order_head, has_order, end_of, group_set, group_mark, pedestrian, movement_count, conflict_set, detector_count, detector_phase, detector_mode, order_at, bad_detector_at}
-use Rattle.rules.specs.Site.{times_in, crossing_at, order_in, site_of}
-use Rattle.rules.specs.declared.answer.Verdict.{Verdict}
-use Rattle.rules.specs.declared.answer.Verdict.TheVariants.{Accepted}
+use Rattle.rules.specs.Personality.{body_length, kind_at, body_at, record_at, site_kind, edition_of, phase_count, group_count, groups_head, conflicts_head, detectors_head, pedestrians_head, past_section, has_head, early_head, has_early, order_head, has_order, end_of, group_set, group_mark, pedestrian, movement_count, conflict_set, detector_count, detector_phase, detector_mode, order_at, bad_detector_at, section_at, time_at, times_at, time_records, timed_section, site_section, phases_section, ninth_pedestrian, group_record, phase_without_group, groups_section, bad_conflict, share_phase, conflict_in_phase, conflicts_section, detector_record, detectors_section, pedestrians_section, early_section, phase_not_once, order_section, calls_phase, walks_phase, phase_without_caller, stops_early, early_missing, left_over, after_pedestrians, verdict_of, phases_head}
+use Rattle.rules.specs.Site.{times_in, crossing_at, order_in, site_of, early_time_at, phase_times_at, walk_times_at}
+use Rattle.rules.specs.Verdicts.{Verdict, Accepted, ◌or_else◌, refuse_if, first_of}
 use Rattle.rules.specs.Limits.{limits, within, start_red_setting, phase_settings, walk_settings, early_setting}
-use Rattle.rules.specs.Verdicts.{◌or_else◌, refuse_if, first_of}
-use Rattle.rules.specs.Personality.{section_at, time_at, times_at, time_records, timed_section, site_section, phases_section, ninth_pedestrian, group_record, phase_without_group, groups_section, bad_conflict, share_phase, conflict_in_phase, conflicts_section, detector_record, detectors_section, pedestrians_section, early_section, phase_not_once, order_section, calls_phase, walks_phase, phase_without_caller, stops_early, early_missing, left_over, after_pedestrians, verdict_of}
 use Rattle.rules.specs.SiteTimes.{under, admitted}
 use Rattle.laws.proofs.Counting.{count_same, indices-at}
 use native.Mathlib.Nat.{add-zero}
 use borrow.Author.Tests.{le-leb}
 use Rattle.rules.specs.declared.site.PhaseTimes.{PhaseTimes}
 use Rattle.rules.specs.declared.site.WalkTimes.{WalkTimes}
-use Rattle.rules.specs.Personality.{phases_head}
-use Rattle.rules.specs.Site.{early_time_at, phase_times_at, walk_times_at}
 use Rattle.rules.specs.Laws.{InTable, PhaseTimesIn, WalkTimesIn, TimesIn, AcceptedIsSound}
 use Rattle.laws.proofs.Booleans.{decided}
 use Rattle.rules.proofs.Verdicts.{or-first, or_later}

@@ -9,9 +9,8 @@ use native.Mathlib.Omega.{arith}
 use lib.ListN.{length}
 use Rattle.rules.specs.declared.site.Site.{Site}
 use Rattle.rules.specs.declared.site.Times.{Times}
-use Rattle.rules.specs.declared.state.Held.{Held}
 use Rattle.rules.specs.declared.state.State.{State}
-use Rattle.std.specs.Prelude.{if◌then◌else◌}
+use Rattle.std.specs.Prelude.{if◌then◌else◌, Option}
 use Rattle.rules.specs.Interval.{following}
 use Rattle.rules.specs.SiteTimes.{under}
 use Rattle.rules.specs.Timed.{starts_next}
@@ -50,7 +49,7 @@ pub record TimedLink (site : Site) (s : State) (ruling : Times) (step : Step) : 
   pub still : step.changed ≡ true → (k : ℕ) → k < 8 → in_walk s k ≡ false
   pub sane : ValidState (under site ruling) s
   pub over : step.changed ≡ true → starts_next (under site ruling) s ≡ true
-  pub begun : step.changed ≡ true → (next : Held) × (step.after.position ≡ following s.position.interval step.ruling next s.position)
+  pub begun : step.changed ≡ true → (next : Option ℕ) × (step.after.position ≡ following s.position.interval step.ruling next s.position)
 
 abbrev pub TimedRun : Site → State → Times → List Step → Type 0
 TimedRun site s ruling [] = Unit {0}

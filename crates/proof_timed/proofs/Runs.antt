@@ -4,14 +4,12 @@ use mathlib.Core.Bool.{Bool, true, false, not, ◌&&◌}
 use mathlib.Core.List.{List, [], ◌∷◌}
 use mathlib.Core.Path.{◌≡◌, refl, sym, subst, ◌∙◌}
 use lib.ListN.{length, drop}
-use Rattle.rules.specs.declared.answer.Verdict.{Verdict}
-use Rattle.rules.specs.declared.answer.Verdict.TheVariants.{Accepted, Refused}
+use Rattle.rules.specs.Verdicts.{Verdict, Accepted, Refused}
 use Rattle.rules.specs.declared.site.Site.{Site}
 use Rattle.rules.specs.declared.site.Times.{Times}
-use Rattle.rules.specs.declared.state.Held.{Held}
 use Rattle.rules.specs.declared.state.KeptState.{KeptState}
 use Rattle.rules.specs.declared.state.State.{State}
-use Rattle.std.specs.Prelude.{if◌then◌else◌}
+use Rattle.std.specs.Prelude.{if◌then◌else◌, Option, Ok, Err}
 use Rattle.rules.specs.Site.{site_of, times_in}
 use Rattle.rules.specs.State.{movement, valid}
 use Rattle.rules.specs.SiteTimes.{under}
@@ -131,7 +129,7 @@ module _ (b : List ℕ) (s : TimedState) (c : StepCall) where
             (t : Bool) →
             t ≡ true →
             starts_next (ruled_site site s) s.core ≡ true →
-            (after : Held)
+            (after : Option ℕ)
             × ((kept_stepped_into (if t then s.waiting.times else s.ruling) (ruled_site site s) (if t then without_counts (kept_of s) else kept_of s) c.inputs).core.position
             ≡ following s.core.position.interval (if t then s.waiting.times else s.ruling) after s.core.position)
         began true e h = change-position (ruled_site site s) s.waiting.times (kept_of s) c.inputs h
@@ -150,10 +148,10 @@ module _ (b : List ℕ) (s : TimedState) (c : StepCall) where
       ((t : TimedState) → TimedRun (site_of b) t.core t.ruling (later t)) →
       TimedRun (site_of b) s.core s.ruling (if_accepted (step_for v).outcome (step_for v) (later (handed_back v next s)))
   unfolding if_accepted bound_for handed_back step_for checks_by
-  step_run sound Accepted e later rest =
+  step_run sound (Ok _) e later rest =
       let told = checks-told b c.inputs (length c.buffer) (timed_valid (site_of b) s) e in
       (link-of sound told.0 told.1, rest next)
-  step_run sound (Refused number place) e later rest = rest s
+  step_run sound (Err r) e later rest = rest s
 
 -- a retiming call alters neither the rest of the state nor what rules
 retime-run :
@@ -161,8 +159,8 @@ retime-run :
     ((t : TimedState) → TimedRun site t.core t.ruling (later t)) →
     TimedRun site s.core s.ruling (later (handed_back v (retimed s times) s))
 unfolding handed_back retimed
-retime-run site s times Accepted later rest = rest (retimed s times)
-retime-run site s times (Refused number place) later rest = rest s
+retime-run site s times (Ok _) later rest = rest (retimed s times)
+retime-run site s times (Err r) later rest = rest s
 
 pub timed-run :
     (b : List ℕ) →

@@ -1,5 +1,6 @@
 -- Part b for a vehicle group, with changes of times. No times take over while it is green and about to stop, in its yellow or before the end of its
 -- all-red; so it is cleared by the times in force when its green ended. After that only red is shown, whichever times rule.
+use Rattle.std.specs.Prelude.{Option}
 use Prim.Native.Nat.{ℕ, suc, ◌+◌, ◌≤◌, ◌<◌}
 use native.Mathlib.Omega.{arith}
 use mathlib.Core.Bool.{Bool, true, false, false≢true}
@@ -11,7 +12,6 @@ use lib.ListN.{length, replicate}
 use borrow.Author.Tests.{leb-true, lt-leb}
 use Rattle.rules.specs.declared.site.Site.{Site}
 use Rattle.rules.specs.declared.site.Times.{Times}
-use Rattle.rules.specs.declared.state.Held.{Held}
 use Rattle.rules.specs.declared.state.Interval.{Interval}
 use Rattle.rules.specs.declared.state.Interval.TheVariants.{StartRed, LateStart, MinimumGreen, Running, EarlyCutOff, Yellow, AllRed}
 use Rattle.rules.specs.declared.state.Position.{Position}
@@ -48,7 +48,7 @@ all-red-lasted site s h e =
 
 -- a group of the phase that is green before a start is green after it
 green-goes-on :
-    (site : Site) (j : ℕ) (new : Times) (next : Held) (position : Position) (i : Interval) →
+    (site : Site) (j : ℕ) (new : Times) (next : Option ℕ) (position : Position) (i : Interval) →
     is_before_start i ≡ true →
     in_phase site.groups j position.phase ≡ true →
     vehicle_colour i true position.previous position.target (group_of site.groups j) ≡ green →

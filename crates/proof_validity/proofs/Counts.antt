@@ -8,12 +8,11 @@ use Rattle.rules.specs.declared.site.PhaseTimes.{PhaseTimes}
 use Rattle.rules.specs.declared.site.Site.{Site}
 use Rattle.rules.specs.declared.site.Times.{Times}
 use Rattle.rules.specs.declared.state.Counts.{Counts}
-use Rattle.rules.specs.declared.state.Held.{Held}
 use Rattle.rules.specs.declared.state.Interval.{Interval}
 use Rattle.rules.specs.declared.state.Interval.TheVariants.{StartRed, LateStart, MinimumGreen, Running, EarlyCutOff, Yellow, AllRed}
 use Rattle.rules.specs.declared.state.Position.{Position}
 use Rattle.rules.specs.declared.state.State.{State}
-use Rattle.std.specs.Prelude.{if◌then◌else◌}
+use Rattle.std.specs.Prelude.{if◌then◌else◌, Option}
 use Rattle.rules.specs.Site.{phase_times}
 use Rattle.rules.specs.IntervalTable.{is_green, is_running, phase_held}
 use Rattle.rules.specs.Demands.{detected, extending, next_demanded}
@@ -69,7 +68,7 @@ module _ (times : PhaseTimes) where
   zero-within : Within times (record { gap = 0; maximum = 0 })
   zero-within = (omega arith, omega arith)
 
-module _ (times : Times) (next : Held) (old : Position) (counts : Counts) (within : Within (phase_times times old.phase) counts) where
+module _ (times : Times) (next : Option ℕ) (old : Position) (counts : Counts) (within : Within (phase_times times old.phase) counts) where
   -- the counts that an interval leaves are within the times of the phase that is then running
   leaving-within :
       (interval : Interval) → Within (phase_times times (following interval times next old).phase) (counts_leaving interval counts)

@@ -1,5 +1,6 @@
 -- Every movement record after part 2 is valid at the position after part 4. Running ends with no movement in walk or C1, and
 -- all-red with none in C2 either, so that all are idle when the phase changes.
+use Rattle.std.specs.Prelude.{Option, Some, None}
 use Prim.Native.Nat.{ℕ, ◌<◌}
 use mathlib.Core.Bool.{true, false, false≢true}
 use mathlib.Core.Path.{◌≡◌, refl, sym, ap, ◌∙◌}
@@ -7,8 +8,6 @@ use lib.Dec.{leb}
 use borrow.Author.Tests.{not-true}
 use Rattle.rules.specs.declared.site.Site.{Site}
 use Rattle.rules.specs.declared.site.Times.{Times}
-use Rattle.rules.specs.declared.state.Held.{Held}
-use Rattle.rules.specs.declared.state.Held.TheVariants.{Nothing, Phase}
 use Rattle.rules.specs.declared.state.Interval.{Interval}
 use Rattle.rules.specs.declared.state.Interval.TheVariants.{StartRed, LateStart, MinimumGreen, Running, EarlyCutOff, Yellow, AllRed}
 use Rattle.rules.specs.declared.state.Movement.{Movement}
@@ -55,7 +54,7 @@ ended-cleared site s inputs over k l =
 module _
     (site : Site)
     (times : Times)
-    (next : Held)
+    (next : Option ℕ)
     (position : Position)
     (k : ℕ)
     (m : Movement)
@@ -63,7 +62,7 @@ module _
   where
     -- the phase goes on in another interval
     entered-valid :
-        (interval : Interval) (target : Held) →
+        (interval : Interval) (target : Option ℕ) →
         is_start_red interval ≡ false →
         (is_leaving interval ≡ true → is_walk_or_first m.stage ≡ false) →
         ValidMovement site (entering interval target position) k m
@@ -81,8 +80,8 @@ module _
     following-movement StartRed e c =
         let i : is_idle m.stage ≡ true = v.start_red (ap is_start_red e) in
         idle-valid site (starting times position.phase position.previous) k m i (v.idle_age i)
-    following-movement LateStart e c = entered-valid MinimumGreen Nothing refl (λ q. absurd (false≢true q))
-    following-movement MinimumGreen e c = entered-valid Running Nothing refl (λ q. absurd (false≢true q))
+    following-movement LateStart e c = entered-valid MinimumGreen None refl (λ q. absurd (false≢true q))
+    following-movement MinimumGreen e c = entered-valid Running None refl (λ q. absurd (false≢true q))
     following-movement Running e c =
         by-early (λ (p : Position). ValidMovement site p k m) times next position
         (λ none. entered-valid Yellow next refl (λ q. c.running refl))
@@ -91,7 +90,7 @@ module _
     following-movement Yellow e c = entered-valid AllRed position.target refl (λ q. v.leaving (ap is_leaving e))
     following-movement AllRed e c =
         let i : is_idle m.stage ≡ true = cleared-idle m.stage (v.leaving (ap is_leaving e)) (c.all_red refl) in
-        idle-valid site (starting times (phase_held position.target) (Phase position.phase)) k m i (v.idle_age i)
+        idle-valid site (starting times (phase_held position.target) (Some position.phase)) k m i (v.idle_age i)
 
     -- it stays
     staying-movement : ValidMovement site (staying position) k m

@@ -9,13 +9,11 @@ use lib.Dec.{eqb}
 use borrow.Author.Tests.{lt-ltb, ne_eqb}
 use Rattle.rules.specs.declared.site.Site.{Site}
 use Rattle.rules.specs.declared.site.Times.{Times}
-use Rattle.rules.specs.declared.state.Held.{Held}
-use Rattle.rules.specs.declared.state.Held.TheVariants.{Nothing, Phase}
 use Rattle.rules.specs.declared.state.Interval.{Interval}
 use Rattle.rules.specs.declared.state.Interval.TheVariants.{StartRed, LateStart, MinimumGreen, Running, EarlyCutOff, Yellow, AllRed}
 use Rattle.rules.specs.declared.state.Position.{Position}
 use Rattle.rules.specs.declared.state.State.{State}
-use Rattle.std.specs.Prelude.{if◌then◌else◌}
+use Rattle.std.specs.Prelude.{if◌then◌else◌, Option, Some, None}
 use Rattle.rules.specs.Site.{phase_times, ring}
 use Rattle.rules.specs.IntervalTable.{is_start_red, is_leaving, is_held, phase_held}
 use Rattle.rules.specs.State.{interval_valid, target_valid, previous_valid}
@@ -55,7 +53,7 @@ new-aged = (omega arith, omega arith)
 
 module _ (count phase : ℕ) where
   -- a phase may be held as the target: it exists, and is unlike the phase that is left
-  held-valid : (t : ℕ) → t < count → (t ≡ phase → ⊥) → target_valid count phase true (Phase t) ≡ true
+  held-valid : (t : ℕ) → t < count → (t ≡ phase → ⊥) → target_valid count phase true (Some t) ≡ true
   unfolding target_valid
   held-valid t h u = and_both (lt-ltb t count h) (rw (ne_eqb t phase u))
 
@@ -69,11 +67,11 @@ unfolding next_demanded next_after another is_held target_valid turn
 next-valid site sound s inputs = step (first_in (demanded site s inputs) (turn (ring site.order site.size.phases) s.position.phase)) refl
   where
     step :
-        (next : Held) →
+        (next : Option ℕ) →
         first_in (demanded site s inputs) (turn (ring site.order site.size.phases) s.position.phase) ≡ next →
         target_valid site.size.phases s.position.phase (is_held next) next ≡ true
-    step Nothing e = refl
-    step (Phase t) e =
+    step None e = refl
+    step (Some t) e =
         let other = found-other (ring_of site sound) (demanded site s inputs) e in
         held-valid site.size.phases s.position.phase t other.0 other.1
 
@@ -85,7 +83,7 @@ Open interval = (is_start_red interval ≡ false) × (is_leaving interval ≡ fa
 
 -- the interval with which a phase starts
 by-late :
-    (P : Interval → Type 0) → P MinimumGreen → P LateStart → (times : Times) (p : ℕ) (previous : Held) → P (starting times p previous).interval
+    (P : Interval → Type 0) → P MinimumGreen → P LateStart → (times : Times) (p : ℕ) (previous : Option ℕ) → P (starting times p previous).interval
 unfolding starting
 by-late P none some times p previous = step (eqb (phase_times times p).late 0)
   where
@@ -94,14 +92,14 @@ by-late P none some times p previous = step (eqb (phase_times times p).late 0)
     step false = some
 
 -- it is open
-pub start-open : (times : Times) (p : ℕ) (previous : Held) → Open (starting times p previous).interval
+pub start-open : (times : Times) (p : ℕ) (previous : Option ℕ) → Open (starting times p previous).interval
 start-open = by-late Open (refl, refl) (refl, refl)
 
 module _
-    (early : Bool) (count : ℕ) (times : Times) (next : Held) (position : Position) (valid : ValidPosition early count position) where
+    (early : Bool) (count : ℕ) (times : Times) (next : Option ℕ) (position : Position) (valid : ValidPosition early count position) where
   -- another interval of the same phase, with a target that fits it
   entering-valid :
-      (interval : Interval) (target : Held) →
+      (interval : Interval) (target : Option ℕ) →
       interval_valid early interval ≡ true →
       target_valid count position.phase (is_leaving interval) target ≡ true →
       ValidPosition early count (entering interval target position)
@@ -109,7 +107,7 @@ module _
   entering-valid interval target i h = record { phase = valid.phase; interval = i; target = h; previous = valid.previous; age = new-aged }
 
   -- a phase that exists starts
-  starting-valid : (p : ℕ) (previous : Held) → p < count → previous_valid count previous ≡ true → ValidPosition early count (starting times p previous)
+  starting-valid : (p : ℕ) (previous : Option ℕ) → p < count → previous_valid count previous ≡ true → ValidPosition early count (starting times p previous)
   unfolding starting target_valid interval_valid
   starting-valid p previous h c =
       record {
@@ -131,8 +129,8 @@ module _
       ValidPosition early count (following interval times next position)
   unfolding following target_valid previous_valid interval_valid
   following-valid StartRed e h section = starting-valid position.phase position.previous valid.phase valid.previous
-  following-valid LateStart e h section = entering-valid MinimumGreen Nothing (or_right early refl) refl
-  following-valid MinimumGreen e h section = entering-valid Running Nothing (or_right early refl) refl
+  following-valid LateStart e h section = entering-valid MinimumGreen None (or_right early refl) refl
+  following-valid MinimumGreen e h section = entering-valid Running None (or_right early refl) refl
   following-valid Running e h section =
       by-early (ValidPosition early count) times next position
       (λ none. entering-valid Yellow next (or_right early refl) (h refl))
@@ -142,7 +140,7 @@ module _
   following-valid AllRed e h section =
       starting-valid
       (phase_held position.target)
-      (Phase position.phase)
+      (Some position.phase)
       (target_below count position.phase position.target (rw e at valid.target))
       (lt-ltb position.phase count valid.phase)
 

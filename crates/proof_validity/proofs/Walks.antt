@@ -6,14 +6,12 @@ use mathlib.Core.Logic.{⊎_elim}
 use mathlib.Core.Path.{◌≡◌, refl}
 use Rattle.rules.specs.declared.site.Site.{Site}
 use Rattle.rules.specs.declared.site.Times.{Times}
-use Rattle.rules.specs.declared.state.Held.{Held}
-use Rattle.rules.specs.declared.state.Held.TheVariants.{Phase}
 use Rattle.rules.specs.declared.state.Interval.{Interval}
 use Rattle.rules.specs.declared.state.Interval.TheVariants.{StartRed, LateStart, MinimumGreen, Running, EarlyCutOff, Yellow, AllRed}
 use Rattle.rules.specs.declared.state.Position.{Position}
 use Rattle.rules.specs.declared.state.Stage.TheVariants.{Walk}
 use Rattle.rules.specs.declared.state.State.{State}
-use Rattle.std.specs.Prelude.{if◌then◌else◌}
+use Rattle.std.specs.Prelude.{if◌then◌else◌, Option, Some}
 use Rattle.rules.specs.Site.{crosses}
 use Rattle.rules.specs.IntervalTable.{is_idle, is_running, is_before_start, phase_held}
 use Rattle.rules.specs.State.{movement}
@@ -57,7 +55,7 @@ running-open interval h = rw (running-only interval h) (refl, refl)
 
 -- what follows start red or all-red is open
 following-open :
-    (interval : Interval) (times : Times) (next : Held) (position : Position) →
+    (interval : Interval) (times : Times) (next : Option ℕ) (position : Position) →
     is_before_start interval ≡ true →
     Open (following interval times next position).interval
 unfolding following
@@ -67,7 +65,7 @@ following-open MinimumGreen times next position h = absurd (false≢true h)
 following-open Running times next position h = absurd (false≢true h)
 following-open EarlyCutOff times next position h = absurd (false≢true h)
 following-open Yellow times next position h = absurd (false≢true h)
-following-open AllRed times next position h = start-open times (phase_held position.target) (Phase position.phase)
+following-open AllRed times next position h = start-open times (phase_held position.target) (Some position.phase)
 
 module _ (site : Site) (sound : Sound site) (s : State) (inputs k : ℕ) where
   started-open : started site s inputs ≡ true → Open (now site s inputs).interval

@@ -1,13 +1,12 @@
 -- The run in which a lock and a button of the staggered junction wait as long as they may: four parts, since one computation has a limit. For each part
 -- what it shows is computed, and the state that it leads to.
+use Rattle.std.specs.Prelude.{Option, Some, None}
 use Prim.Native.Nat.{ℕ, ◌+◌}
 use mathlib.Core.Bool.{Bool, true, false}
 use mathlib.Core.List.{List, ◌++◌, append_assoc}
 use mathlib.Core.Path.{◌≡◌, refl, sym, ap, ap₂, ◌∙◌}
 use native.Mathlib.Omega.{arith}
 use lib.ListN.{length, drop, replicate, length-append}
-use Rattle.rules.specs.declared.state.Held.{Held}
-use Rattle.rules.specs.declared.state.Held.TheVariants.{Nothing, Phase}
 use Rattle.rules.specs.declared.state.Interval.{Interval}
 use Rattle.rules.specs.declared.state.Interval.TheVariants.{MinimumGreen, Running, EarlyCutOff}
 use Rattle.rules.specs.Site.{site_of, times_in}
@@ -25,7 +24,7 @@ use Rattle.proof_wait_cases.proofs.Parts.{steps_of, steps-append, drop-part, fir
 -- ── The states between the parts ──
 
 -- every movement is idle, and the personality's own times rule
-standing : (phase : ℕ) → Interval → (age : ℕ) → (previous target : Held) → (gap maximum locks buttons kept : ℕ) → TimedState
+standing : (phase : ℕ) → Interval → (age : ℕ) → (previous target : Option ℕ) → (gap maximum locks buttons kept : ℕ) → TimedState
 standing phase interval age previous target gap maximum locks buttons kept =
     record {
       core =
@@ -42,15 +41,15 @@ standing phase interval age previous target gap maximum locks buttons kept =
 
 -- A has started: the locks of B and C are set
 first : TimedState
-first = standing 0 MinimumGreen 1 Nothing Nothing 30 0 6 0 6
+first = standing 0 MinimumGreen 1 None None 30 0 6 0 6
 
 -- A is left for B, and the button is set too
 second : TimedState
-second = standing 0 EarlyCutOff 1 Nothing (Phase 1) 30 155 6 1 7
+second = standing 0 EarlyCutOff 1 None (Some 1) 30 155 6 1 7
 
 -- B runs: the locks of A and C and the button are set
 third : TimedState
-third = standing 1 Running 140 (Phase 0) Nothing 25 139 5 1 5
+third = standing 1 Running 140 (Some 0) None 25 139 5 1 5
 
 -- ── What each part shows ──
 

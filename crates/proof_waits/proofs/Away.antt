@@ -6,12 +6,11 @@ use mathlib.Core.Path.{◌≡◌, refl, sym, ap}
 use lib.Dec.{eqb}
 use borrow.Author.Tests.{eqb-true, eq-eqb}
 use Rattle.rules.specs.declared.site.Times.{Times}
-use Rattle.rules.specs.declared.state.Held.{Held}
 use Rattle.rules.specs.declared.state.Interval.{Interval}
 use Rattle.rules.specs.declared.state.Interval.TheVariants.{StartRed, LateStart, MinimumGreen, Running, EarlyCutOff, Yellow, AllRed}
 use Rattle.rules.specs.declared.state.Position.{Position}
 use Rattle.rules.specs.declared.state.State.{State}
-use Rattle.std.specs.Prelude.{if◌then◌else◌}
+use Rattle.std.specs.Prelude.{if◌then◌else◌, Option}
 use Rattle.rules.specs.Site.{phase_times}
 use Rattle.rules.specs.IntervalTable.{is_green, is_minimum_green, phase_held}
 use Rattle.rules.specs.Demands.{in_green}
@@ -35,7 +34,7 @@ start-away false m = refl
 
 -- running of a phase comes after its own minimum green only
 pub following-away :
-    (q : ℕ) (i : Interval) (times : Times) (next : Held) (position : Position) →
+    (q : ℕ) (i : Interval) (times : Times) (next : Option ℕ) (position : Position) →
     position.interval ≡ i →
     AwayAt q position →
     NotBegun q (following i times next position) →

@@ -9,13 +9,11 @@ use lib.Dec.{leb}
 use borrow.Author.Tests.{leb-false}
 use Rattle.rules.specs.declared.site.PhaseTimes.{PhaseTimes}
 use Rattle.rules.specs.declared.site.Site.{Site}
-use Rattle.rules.specs.declared.state.Held.{Held}
-use Rattle.rules.specs.declared.state.Held.TheVariants.{Phase}
 use Rattle.rules.specs.declared.state.Interval.{Interval}
 use Rattle.rules.specs.declared.state.Interval.TheVariants.{StartRed, LateStart, MinimumGreen, Running, EarlyCutOff, Yellow, AllRed}
 use Rattle.rules.specs.declared.state.Position.{Position}
 use Rattle.rules.specs.declared.state.State.{State}
-use Rattle.std.specs.Prelude.{if◌then◌else◌}
+use Rattle.std.specs.Prelude.{if◌then◌else◌, Option, Some}
 use Rattle.rules.specs.IntervalTable.{phase_held, is_running, is_before_start, is_leaving}
 use Rattle.rules.specs.State.{highest_age}
 use Rattle.rules.specs.Demands.{next_demanded}
@@ -95,7 +93,7 @@ module _ (site : Site) (sound : Sound site) (s : State) (inputs : ℕ) (v : Vali
   module _
       (ahead : ℕ → ℕ)
       (Out : Type 0)
-      (begins : (t : ℕ) (previous : Held) → started site s inputs ≡ true → next.position ≡ starting site.times t previous → ahead t ≤ n → Out)
+      (begins : (t : ℕ) (previous : Option ℕ) → started site s inputs ≡ true → next.position ≡ starting site.times t previous → ahead t ≤ n → Out)
       (goes : (position : Position) → next.position ≡ position → BetweenIn site ahead position.interval position (idles site next) n → Out)
     where
       abbrev target : ℕ
@@ -135,7 +133,7 @@ module _ (site : Site) (sound : Sound site) (s : State) (inputs : ℕ) (v : Vali
       between_step Yellow false e b h =
           stays Yellow e b (leaving-stays Yellow settings.yellow settings.red target e b refl refl refl times.yellow.1 h)
       between_step AllRed true e b h =
-          begins (phase_held s.position.target) (Phase s.position.phase) (started-in site s inputs AllRed e true b)
+          begins (phase_held s.position.target) (Some s.position.phase) (started-in site s inputs AllRed e true b)
           (next-in site s inputs AllRed e true b)
           (omega (arith, h.0))
       between_step AllRed false e b h =

@@ -8,14 +8,13 @@ use native.Mathlib.Omega.{arith}
 use lib.Dec.{eqb}
 use Rattle.rules.specs.declared.site.Site.{Site}
 use Rattle.rules.specs.declared.site.WalkTimes.{WalkTimes}
-use Rattle.rules.specs.declared.state.Held.{Held}
 use Rattle.rules.specs.declared.state.Interval.{Interval}
 use Rattle.rules.specs.declared.state.Interval.TheVariants.{StartRed, LateStart, MinimumGreen, Running, EarlyCutOff, Yellow, AllRed}
 use Rattle.rules.specs.declared.state.Position.{Position}
 use Rattle.rules.specs.declared.state.Stage.{Stage}
 use Rattle.rules.specs.declared.state.Stage.TheVariants.{Idle, Walk, ClearanceOne, ClearanceTwo}
 use Rattle.rules.specs.declared.state.State.{State}
-use Rattle.std.specs.Prelude.{if◌then◌else◌}
+use Rattle.std.specs.Prelude.{if◌then◌else◌, Option}
 use Rattle.rules.specs.Site.{phase_times, walk_times, crosses}
 use Rattle.rules.specs.IntervalTable.{is_idle, is_walk, is_green, is_running, is_leaving, phase_held}
 use Rattle.rules.specs.State.{movement}
@@ -56,7 +55,7 @@ start-stops true = refl
 start-stops false = refl
 
 -- running comes after minimum green only
-leaving-stops : (site : Site) (i : Interval) (next : Held) (position : Position) → is_leaving i ≡ true → is_running (following i site.times next position).interval ≡ false
+leaving-stops : (site : Site) (i : Interval) (next : Option ℕ) (position : Position) → is_leaving i ≡ true → is_running (following i site.times next position).interval ≡ false
 unfolding following entering starting
 leaving-stops site StartRed next position h = absurd (never_both h refl)
 leaving-stops site LateStart next position h = absurd (never_both h refl)
@@ -76,7 +75,7 @@ leaving-off Yellow h = refl
 leaving-off AllRed h = refl
 
 -- in minimum green and running the phase stays
-green-phase : (site : Site) (i : Interval) (next : Held) (position : Position) → is_green i ≡ true → (following i site.times next position).phase ≡ position.phase
+green-phase : (site : Site) (i : Interval) (next : Option ℕ) (position : Position) → is_green i ≡ true → (following i site.times next position).phase ≡ position.phase
 unfolding following entering
 green-phase site StartRed next position h = absurd (never_both h refl)
 green-phase site LateStart next position h = refl

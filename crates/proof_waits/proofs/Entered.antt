@@ -7,12 +7,11 @@ use lib.Dec.{eqb}
 use borrow.Author.Tests.{leb-false, eqb-false}
 use Rattle.rules.specs.declared.site.PhaseTimes.{PhaseTimes}
 use Rattle.rules.specs.declared.site.Site.{Site}
-use Rattle.rules.specs.declared.state.Held.{Held}
 use Rattle.rules.specs.declared.state.Interval.{Interval}
 use Rattle.rules.specs.declared.state.Interval.TheVariants.{StartRed, LateStart, MinimumGreen, Running, EarlyCutOff, Yellow, AllRed}
 use Rattle.rules.specs.declared.state.Position.{Position}
 use Rattle.rules.specs.declared.state.State.{State}
-use Rattle.std.specs.Prelude.{if◌then◌else◌}
+use Rattle.std.specs.Prelude.{if◌then◌else◌, Option}
 use Rattle.rules.specs.Site.{phase_times}
 use Rattle.rules.specs.IntervalTable.{phase_held, is_before_start}
 use Rattle.rules.specs.Demands.{next_demanded}
@@ -51,7 +50,7 @@ start-entered : (times : PhaseTimes) (b : Bool) → eqb times.late 0 ≡ b → E
 start-entered times true e = tt
 start-entered times false e = omega (arith, eqb-false times.late 0 e)
 
-following-entered : (site : Site) (i : Interval) (next : Held) (position : Position) → EnteredAt site (following i site.times next position)
+following-entered : (site : Site) (i : Interval) (next : Option ℕ) (position : Position) → EnteredAt site (following i site.times next position)
 unfolding following entering starting
 following-entered site StartRed next position =
     start-entered (phase_times site.times position.phase) (eqb (phase_times site.times position.phase).late 0) refl

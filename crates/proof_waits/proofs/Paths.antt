@@ -1,14 +1,13 @@
 -- The way to a demanded phase along the ring: the sum of a weight over the phases that may start before it. The search for the next phase never
 -- jumps over a demanded one, so each start leaves no more than the way that was left. The wait bound weighs a phase by its visit, the waits by its turn, a count
 -- of starts by 1.
+use Rattle.std.specs.Prelude.{Option, Some, None}
 use Prim.Native.Nat.{ℕ, ◌+◌, ◌≤◌, ◌<◌}
 use mathlib.Core.Bool.{true}
 use mathlib.Core.List.{List}
 use mathlib.Core.Path.{◌≡◌, refl, sym}
 use native.Mathlib.Omega.{arith}
 use Rattle.rules.specs.declared.site.Site.{Site}
-use Rattle.rules.specs.declared.state.Held.{Held}
-use Rattle.rules.specs.declared.state.Held.TheVariants.{Nothing, Phase}
 use Rattle.rules.specs.declared.state.State.{State}
 use Rattle.laws.specs.Folds.{sum_of}
 use Rattle.rules.specs.Site.{ring}
@@ -66,7 +65,7 @@ module _ (site : Site) (q : ℕ) (sound : Sound site) (below : q < site.size.pha
     -- the way from another phase does not lead through the one that comes next after q
     pub ahead_past :
         (r t : ℕ) →
-        next_after (ring_in site) q (λ p. true) ≡ Phase r →
+        next_after (ring_in site) q (λ p. true) ≡ Some r →
         t < site.size.phases →
         (t ≡ r → ⊥) →
         weight r + ahead weight (ring_in site) q tail t + weight q ≤ whole
@@ -86,13 +85,13 @@ module _ (site : Site) (q : ℕ) (sound : Sound site) (below : q < site.size.pha
 
     module _ (weight : ℕ → ℕ) (tail : ℕ) (here : s.position.phase < site.size.phases) where
       near :
-          (next : Held) →
+          (next : Option ℕ) →
           next_demanded site s inputs ≡ next →
           is_held next ≡ true →
           ahead weight (ring_in site) q tail (phase_held next) ≤ onward weight (ring_in site) q tail s.position.phase
       unfolding is_held phase_held ahead onward next_demanded next_after turn
-      near Nothing e h = absurd (never_both h refl)
-      near (Phase t) e h = omega (arith, nearer (ring_of site sound) weight below here (demanded site s inputs) d e)
+      near None e h = absurd (never_both h refl)
+      near (Some t) e h = omega (arith, nearer (ring_of site sound) weight below here (demanded site s inputs) d e)
 
       pub next-near :
           another site s inputs ≡ true →

@@ -8,12 +8,10 @@ use native.Mathlib.Omega.{arith}
 use lib.Dec.{ltb, eqb}
 use borrow.Author.Tests.{eqb-true, eqb-false, not-true}
 use Rattle.rules.specs.declared.site.Site.{Site}
-use Rattle.rules.specs.declared.state.Held.{Held}
-use Rattle.rules.specs.declared.state.Held.TheVariants.{Nothing, Phase}
 use Rattle.rules.specs.declared.state.Interval.{Interval}
 use Rattle.rules.specs.declared.state.Interval.TheVariants.{StartRed, LateStart, MinimumGreen, Running, EarlyCutOff, Yellow, AllRed}
 use Rattle.rules.specs.declared.state.State.{State}
-use Rattle.std.specs.Prelude.{if◌then◌else◌}
+use Rattle.std.specs.Prelude.{if◌then◌else◌, Option, Some, None}
 use Rattle.laws.specs.Folds.{sum_of, greatest_of}
 use Rattle.rules.specs.Site.{walk_times}
 use Rattle.rules.specs.IntervalTable.{phase_held, is_held, is_leaving, is_before_start}
@@ -65,15 +63,15 @@ module _ (site : Site) (sound : Sound site) (s : State) (v : ValidState site s) 
 
 -- ── The next phase in the order ──
 
-target-other : (count phase : ℕ) (target : Held) → target_valid count phase true target ≡ true → phase_held target ≡ phase → ⊥
+target-other : (count phase : ℕ) (target : Option ℕ) → target_valid count phase true target ≡ true → phase_held target ≡ phase → ⊥
 unfolding target_valid phase_held
-target-other count phase Nothing h = absurd (never_both h refl)
-target-other count phase (Phase t) h = eqb-false t phase (not-true (eqb t phase) (and_right (ltb t count) (not (eqb t phase)) h))
+target-other count phase None h = absurd (never_both h refl)
+target-other count phase (Some t) h = eqb-false t phase (not-true (eqb t phase) (and_right (ltb t count) (not (eqb t phase)) h))
 
-held-as : (next : Held) (r : ℕ) → (is_held next && eqb (phase_held next) r) ≡ true → next ≡ Phase r
+held-as : (next : Option ℕ) (r : ℕ) → (is_held next && eqb (phase_held next) r) ≡ true → next ≡ Some r
 unfolding is_held phase_held
-held-as Nothing r h = absurd (never_both h refl)
-held-as (Phase t) r h = ap Phase (eqb-true t r h)
+held-as None r h = absurd (never_both h refl)
+held-as (Some t) r h = ap Some (eqb-true t r h)
 
 -- ── Within the wait ──
 

@@ -9,13 +9,11 @@ use lib.Dec.{leb, eqb}
 use borrow.Author.Tests.{leb-false, eqb-false}
 use Rattle.rules.specs.declared.site.PhaseTimes.{PhaseTimes}
 use Rattle.rules.specs.declared.site.Site.{Site}
-use Rattle.rules.specs.declared.state.Held.{Held}
-use Rattle.rules.specs.declared.state.Held.TheVariants.{Nothing}
 use Rattle.rules.specs.declared.state.Interval.{Interval}
 use Rattle.rules.specs.declared.state.Interval.TheVariants.{StartRed, LateStart, MinimumGreen, Running, EarlyCutOff, Yellow, AllRed}
 use Rattle.rules.specs.declared.state.Position.{Position}
 use Rattle.rules.specs.declared.state.State.{State}
-use Rattle.std.specs.Prelude.{if◌then◌else◌}
+use Rattle.std.specs.Prelude.{if◌then◌else◌, Option, None}
 use Rattle.laws.specs.Folds.{greatest_of}
 use Rattle.rules.specs.Site.{phase_times, walk_times, crosses}
 use Rattle.rules.specs.IntervalTable.{phase_held, is_idle, is_green, is_running, is_before_start, is_leaving}
@@ -213,7 +211,7 @@ module _
         (subst (λ (j : Interval). TurnAt j (staying s.position)) (sym e) h))
 
     enters :
-        (i : Interval) (target : Held) →
+        (i : Interval) (target : Option ℕ) →
         next.position ≡ entering i target s.position →
         TurnAt i (entering i target s.position) →
         Outcome
@@ -222,7 +220,7 @@ module _
 
     -- another phase than q starts
     starts-turn :
-        (t : ℕ) (previous : Held) →
+        (t : ℕ) (previous : Option ℕ) →
         next.position ≡ starting site.times t previous →
         (t ≡ q → ⊥) →
         ahead t ≤ n →
@@ -258,7 +256,7 @@ module _
         )
 
     begins :
-        (t : ℕ) (previous : Held) →
+        (t : ℕ) (previous : Option ℕ) →
         started site s inputs ≡ true →
         next.position ≡ starting site.times t previous →
         ahead t ≤ n →
@@ -308,7 +306,7 @@ module _
 
       -- it ends
       leaves :
-          (i : Interval) (target : Held) →
+          (i : Interval) (target : Option ℕ) →
           is_leaving i ≡ true →
           next.position ≡ entering i target s.position →
           ahead (phase_held target) ≤ more →
@@ -410,7 +408,7 @@ module _
     unfolding following entering staying ends
     step StartRed b e h l = between StartRed b e h l
     step LateStart true e b h =
-        enters MinimumGreen Nothing (next-in site s inputs LateStart e true b)
+        enters MinimumGreen None (next-in site s inputs LateStart e true b)
         (green-goes _ _ settings.maximum settings.maximum (quiet-in site s inputs LateStart e true b refl refl)
         (omega (arith, times.minimum))
         (λ r. omega arith)
@@ -425,7 +423,7 @@ module _
         (omega (arith, falls, h.0))
         h)
     step MinimumGreen true e b h =
-        enters Running Nothing (next-in site s inputs MinimumGreen e true b)
+        enters Running None (next-in site s inputs MinimumGreen e true b)
         (green-goes _ 0 settings.maximum _ (none-begins MinimumGreen e refl refl)
         (omega arith)
         (λ r. omega arith)

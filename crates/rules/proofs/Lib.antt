@@ -7,6 +7,7 @@ pub mod StepCases
 pub mod AnswerCases
 pub mod TimedCases
 pub mod Verdicts
+pub mod Checks
 pub mod IntervalTests
 pub mod Settings
 pub mod Pass

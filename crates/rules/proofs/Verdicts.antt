@@ -1,6 +1,7 @@
 -- Laws of verdicts: acceptance of checks in order is acceptance of each, and a refusal comes from one of them. And as code makes checks
 -- one after the other: one that passed leaves the answer to the next, a refusal is the answer, and once each of a row has passed the
 -- row has.
+use Rattle.std.specs.Prelude.{Ok, Err}
 use Prim.Native.Nat.{ℕ, zero, suc, ◌+◌, ◌<◌}
 use mathlib.Core.Bool.{Bool, true, false}
 use mathlib.Core.Logic.{◌⊎◌, inl, inr, ⊎_elim}
@@ -8,7 +9,7 @@ use mathlib.Core.Path.{◌≡◌, refl, ap, sym, ◌∙◌}
 use native.Mathlib.Nat.{not-suc-le-zero}
 use native.Mathlib.Numerals.{add-one}
 use native.Mathlib.Omega.{arith}
-use Rattle.rules.specs.Types.{Verdict, Accepted, Refused}
+use Rattle.rules.specs.Types.{Verdict, Accepted, Refused, Refusal}
 use Rattle.rules.specs.Verdicts.{◌or_else◌, refuse_if, first_of}
 use Rattle.laws.proofs.Indices.{last-or-below}
 use Rattle.laws.proofs.Folds.{fold_at}
@@ -16,20 +17,26 @@ use Rattle.laws.proofs.Folds.{fold_at}
 pub refused-not-accepted : {n p : ℕ} → Refused n p ≡ Accepted → ⊥
 refused-not-accepted h = let z : ◌≡◌ {A = ℕ} 0 1 = cc in omega arith
 
+-- refusals are the same only with the same number and place
+pub refused-same : (m q n p : ℕ) → Refused m q ≡ Refused n p → (m ≡ n) × (q ≡ p)
+refused-same m q n p h =
+    let same : ◌≡◌ {A = Refusal} (record { number = m; place = q }) (record { number = n; place = p }) = cc in
+    (ap (λ (r : Refusal). r.number) same, ap (λ (r : Refusal). r.place) same)
+
 pub or-first : (a b : Verdict) → (a or_else b) ≡ Accepted → a ≡ Accepted
 unfolding ◌or_else◌
-or-first Accepted b h = refl
-or-first (Refused n p) b h = h
+or-first (Ok _) b h = refl
+or-first (Err r) b h = h
 
 pub or_later : (a b : Verdict) → (a or_else b) ≡ Accepted → b ≡ Accepted
 unfolding ◌or_else◌
-or_later Accepted b h = h
-or_later (Refused n p) b h = absurd (refused-not-accepted h)
+or_later (Ok _) b h = h
+or_later (Err r) b h = absurd (refused-not-accepted h)
 
 pub or-refused : (a b : Verdict) {n p : ℕ} → (a or_else b) ≡ Refused n p → (a ≡ Refused n p) ⊎ ((a ≡ Accepted) × (b ≡ Refused n p))
 unfolding ◌or_else◌
-or-refused Accepted b h = inr (refl, h)
-or-refused (Refused n p) b h = inl h
+or-refused (Ok _) b h = inr (refl, h)
+or-refused (Err r) b h = inl h
 
 pub refuse-passed : (t : Bool) (n p : ℕ) → refuse_if t n p ≡ Accepted → t ≡ false
 unfolding refuse_if
@@ -38,7 +45,7 @@ refuse-passed false n p h = refl
 
 pub refuse-failed : (t : Bool) (m q : ℕ) {n p : ℕ} → refuse_if t m q ≡ Refused n p → (t ≡ true) × (n ≡ m) × (p ≡ q)
 unfolding refuse_if
-refuse-failed true m q h = (refl, cc, cc)
+refuse-failed true m q {n} {p} h = let same = refused-same m q n p h in (refl, sym same.0, sym same.1)
 refuse-failed false m q h = absurd (refused-not-accepted (sym h))
 
 pub first-each : (f : ℕ → Verdict) (n i : ℕ) → first_of f n ≡ Accepted → i < n → f i ≡ Accepted

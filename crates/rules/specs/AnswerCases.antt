@@ -1,8 +1,8 @@
 -- Worked cases of what the calls answer and write: 15 and 14 with their order, the bytes of the colour buffer, and the colours in each interval and
 -- stage. Then the site that a personality describes, the fresh state, the lookup of sections, the waits, the lines of a trace and the codes in a
 -- state. Colours are given as the numbers of document 01: red 0, yellow 1, green 2, flashing red 3.
-use Rattle.std.specs.Prelude.{ℕ, ◌+◌, ◌^◌, false, List, [], ◌∷◌, ◌++◌, replicate, set}
-use Rattle.rules.specs.Types.{Stepped, StepRefused, Report, One, Detector, Group, PhaseTimes, Site, Times, WalkTimes, Held, Nothing, Phase, Interval, StartRed, LateStart, MinimumGreen, Running, EarlyCutOff, Yellow, AllRed, KeptState, Movement, Position, Idle, Walk, ClearanceOne, ClearanceTwo}
+use Rattle.std.specs.Prelude.{ℕ, ◌+◌, ◌^◌, false, List, [], ◌∷◌, ◌++◌, replicate, set, Option, Some, None}
+use Rattle.rules.specs.Types.{Stepped, StepRefused, Report, One, Detector, Group, PhaseTimes, Site, Times, WalkTimes, Interval, StartRed, LateStart, MinimumGreen, Running, EarlyCutOff, Yellow, AllRed, KeptState, Movement, Position, Idle, Walk, ClearanceOne, ClearanceTwo}
 use Rattle.rules.specs.State.{idle}
 use Rattle.rules.specs.Timed.{TimedState}
 use Rattle.rules.specs.Junctions.{junction, put_two, crossing, three_phases, overlap, seven_phases, eight_crossings, wide, cut_offs, turning, ordered, edition_two}
@@ -16,18 +16,18 @@ with position first = state position (gap 0 max 0) (locks 0 buttons 0) first 0
 
 -- A in running, at an age
 abbrev resting : ℕ → KeptState
-resting age = with (at 0 Running age Nothing) idle
+resting age = with (at 0 Running age None) idle
 
 -- B in an interval, with a came-from
-abbrev in_b : Interval → Held → KeptState
-in_b interval previous = with (record { phase = 1; interval = interval; age = 1; previous = previous; target = Nothing }) idle
+abbrev in_b : Interval → Option ℕ → KeptState
+in_b interval previous = with (record { phase = 1; interval = interval; age = 1; previous = previous; target = None }) idle
 
 -- B in running; the eighth movement is in walk
 abbrev eighth_walks : KeptState
 eighth_walks =
     record {
       core = record {
-        position = at 1 Running 1 Nothing;
+        position = at 1 Running 1 None;
         counts = gap 0 max 0;
         demands = locks 0 buttons 0;
         movements = replicate 7 idle ++ (moving Walk 1 ∷ []);
@@ -49,14 +49,14 @@ input_cases =
     ∷ refusing_with eight_crossings (resting 1) (2 ^ 56) 15
     -- each detector may be occupied, also one that does nothing, up to the last one, which locks B
     ∷ stepping_to wide (resting 1) (2 ^ 0 + 2 ^ 45) (resting 2)
-    ∷ stepping_to wide (with (at 0 MinimumGreen 1 Nothing) idle) (2 ^ 47) (state (at 0 MinimumGreen 2 Nothing) (gap 0 max 0) (locks 2 buttons 0) idle 2)
+    ∷ stepping_to wide (with (at 0 MinimumGreen 1 None) idle) (2 ^ 47) (state (at 0 MinimumGreen 2 None) (gap 0 max 0) (locks 2 buttons 0) idle 2)
     -- 14: a buffer shorter than N; a longer one keeps the bytes past N
     ∷ writing junction (ruled_by junction (resting 1)) 0 [] (StepRefused 14 0) []
     ∷ writing junction (ruled_by junction (resting 1)) 0 (7 ∷ []) (StepRefused 14 0) (7 ∷ [])
     ∷ writing junction (ruled_by junction (resting 1)) 0 (7 ∷ 7 ∷ []) (Stepped 270) (2 ∷ 0 ∷ [])
     ∷ writing junction (ruled_by junction (resting 1)) 0 (7 ∷ 7 ∷ 8 ∷ 9 ∷ []) (Stepped 270) (2 ∷ 0 ∷ 8 ∷ 9 ∷ [])
     -- the colours are those of the new state
-    ∷ writing junction (ruled_by junction (with (at 0 StartRed 10 Nothing) idle)) 0 (7 ∷ 7 ∷ []) (Stepped 270) (2 ∷ 0 ∷ [])
+    ∷ writing junction (ruled_by junction (with (at 0 StartRed 10 None) idle)) 0 (7 ∷ 7 ∷ []) (Stepped 270) (2 ∷ 0 ∷ [])
     -- the personality is checked first, then 13, then 15, then 14; no byte changes
     ∷ writing (put_two junction 20 29) (ruled_by junction (resting 0)) 4 [] (StepRefused 5 20) []
     ∷ writing junction (ruled_by junction (resting 0)) 4 (7 ∷ []) (StepRefused 13 0) (7 ∷ [])
@@ -68,34 +68,34 @@ input_cases =
 unfoldable pub colour_cases : List CallCase
 colour_cases =
     -- the groups of the phase: red in start red, green in late start, minimum green and running, then yellow, then red; those of the other phase are red
-    showing junction (with (at 0 StartRed 1 Nothing) idle) (0 ∷ 0 ∷ [])
-    ∷ showing junction (with (at 0 LateStart 1 Nothing) idle) (2 ∷ 0 ∷ [])
-    ∷ showing junction (with (at 0 MinimumGreen 1 Nothing) idle) (2 ∷ 0 ∷ [])
+    showing junction (with (at 0 StartRed 1 None) idle) (0 ∷ 0 ∷ [])
+    ∷ showing junction (with (at 0 LateStart 1 None) idle) (2 ∷ 0 ∷ [])
+    ∷ showing junction (with (at 0 MinimumGreen 1 None) idle) (2 ∷ 0 ∷ [])
     ∷ showing junction (resting 1) (2 ∷ 0 ∷ [])
-    ∷ showing junction (with (at 0 Yellow 1 (Phase 1)) idle) (1 ∷ 0 ∷ [])
-    ∷ showing junction (with (at 0 AllRed 1 (Phase 1)) idle) (0 ∷ 0 ∷ [])
-    ∷ showing junction (in_b Running Nothing) (0 ∷ 2 ∷ [])
+    ∷ showing junction (with (at 0 Yellow 1 (Some 1)) idle) (1 ∷ 0 ∷ [])
+    ∷ showing junction (with (at 0 AllRed 1 (Some 1)) idle) (0 ∷ 0 ∷ [])
+    ∷ showing junction (in_b Running None) (0 ∷ 2 ∷ [])
     -- group 2 is of both phases and stays green from A to B; group 3 waits in late start
-    ∷ showing overlap (with (at 0 AllRed 1 (Phase 1)) idle) (0 ∷ 0 ∷ 2 ∷ 0 ∷ [])
-    ∷ showing overlap (in_b LateStart (Phase 0)) (0 ∷ 2 ∷ 2 ∷ 0 ∷ [])
-    ∷ showing overlap (in_b MinimumGreen (Phase 0)) (0 ∷ 2 ∷ 2 ∷ 2 ∷ [])
+    ∷ showing overlap (with (at 0 AllRed 1 (Some 1)) idle) (0 ∷ 0 ∷ 2 ∷ 0 ∷ [])
+    ∷ showing overlap (in_b LateStart (Some 0)) (0 ∷ 2 ∷ 2 ∷ 0 ∷ [])
+    ∷ showing overlap (in_b MinimumGreen (Some 0)) (0 ∷ 2 ∷ 2 ∷ 2 ∷ [])
     -- a group of mark 1 waits unless came-from is in its set; one of mark 3 does not wait
-    ∷ showing (set overlap 45 1) (in_b LateStart (Phase 0)) (0 ∷ 2 ∷ 2 ∷ 0 ∷ [])
-    ∷ showing (set overlap 45 1) (in_b LateStart Nothing) (0 ∷ 2 ∷ 0 ∷ 0 ∷ [])
-    ∷ showing (set overlap 45 3 ++ cut_offs (0 ∷ 0 ∷ [])) (in_b LateStart Nothing) (0 ∷ 2 ∷ 2 ∷ 0 ∷ [])
+    ∷ showing (set overlap 45 1) (in_b LateStart (Some 0)) (0 ∷ 2 ∷ 2 ∷ 0 ∷ [])
+    ∷ showing (set overlap 45 1) (in_b LateStart None) (0 ∷ 2 ∷ 0 ∷ 0 ∷ [])
+    ∷ showing (set overlap 45 3 ++ cut_offs (0 ∷ 0 ∷ [])) (in_b LateStart None) (0 ∷ 2 ∷ 2 ∷ 0 ∷ [])
     -- the arrow, group 1, closes for 30 steps from the start of early cut-off green, through yellow too; the other group of A is green, then yellow
-    ∷ showing (turning ++ cut_offs (20 ∷ 0 ∷ [])) (with (at 0 EarlyCutOff 1 (Phase 1)) idle) (2 ∷ 1 ∷ 0 ∷ [])
-    ∷ showing (turning ++ cut_offs (50 ∷ 0 ∷ [])) (with (at 0 EarlyCutOff 30 (Phase 1)) idle) (2 ∷ 1 ∷ 0 ∷ [])
-    ∷ showing (turning ++ cut_offs (50 ∷ 0 ∷ [])) (with (at 0 EarlyCutOff 31 (Phase 1)) idle) (2 ∷ 0 ∷ 0 ∷ [])
-    ∷ showing (turning ++ cut_offs (20 ∷ 0 ∷ [])) (with (at 0 Yellow 10 (Phase 1)) idle) (1 ∷ 1 ∷ 0 ∷ [])
-    ∷ showing (turning ++ cut_offs (0 ∷ 0 ∷ [])) (with (at 0 Yellow 30 (Phase 1)) idle) (1 ∷ 1 ∷ 0 ∷ [])
+    ∷ showing (turning ++ cut_offs (20 ∷ 0 ∷ [])) (with (at 0 EarlyCutOff 1 (Some 1)) idle) (2 ∷ 1 ∷ 0 ∷ [])
+    ∷ showing (turning ++ cut_offs (50 ∷ 0 ∷ [])) (with (at 0 EarlyCutOff 30 (Some 1)) idle) (2 ∷ 1 ∷ 0 ∷ [])
+    ∷ showing (turning ++ cut_offs (50 ∷ 0 ∷ [])) (with (at 0 EarlyCutOff 31 (Some 1)) idle) (2 ∷ 0 ∷ 0 ∷ [])
+    ∷ showing (turning ++ cut_offs (20 ∷ 0 ∷ [])) (with (at 0 Yellow 10 (Some 1)) idle) (1 ∷ 1 ∷ 0 ∷ [])
+    ∷ showing (turning ++ cut_offs (0 ∷ 0 ∷ [])) (with (at 0 Yellow 30 (Some 1)) idle) (1 ∷ 1 ∷ 0 ∷ [])
     -- a group of mark 1 is no arrow
-    ∷ showing (set (set overlap 45 1) 44 1 ++ cut_offs (20 ∷ 0 ∷ [])) (with (at 0 EarlyCutOff 1 (Phase 1)) idle) (2 ∷ 0 ∷ 2 ∷ 0 ∷ [])
-    ∷ showing (set (set overlap 45 1) 44 1 ++ cut_offs (20 ∷ 0 ∷ [])) (with (at 0 Yellow 30 (Phase 1)) idle) (1 ∷ 0 ∷ 1 ∷ 0 ∷ [])
+    ∷ showing (set (set overlap 45 1) 44 1 ++ cut_offs (20 ∷ 0 ∷ [])) (with (at 0 EarlyCutOff 1 (Some 1)) idle) (2 ∷ 0 ∷ 2 ∷ 0 ∷ [])
+    ∷ showing (set (set overlap 45 1) 44 1 ++ cut_offs (20 ∷ 0 ∷ [])) (with (at 0 Yellow 30 (Some 1)) idle) (1 ∷ 0 ∷ 1 ∷ 0 ∷ [])
     -- a movement: green in walk, flashing red in C1 and C2, red when idle
-    ∷ showing crossing (with (at 0 Running 1 Nothing) (moving Walk 1)) (2 ∷ 0 ∷ 2 ∷ [])
-    ∷ showing crossing (with (at 0 Running 1 Nothing) (moving ClearanceOne 1)) (2 ∷ 0 ∷ 3 ∷ [])
-    ∷ showing crossing (with (at 0 Yellow 1 (Phase 1)) (moving ClearanceTwo 1)) (1 ∷ 0 ∷ 3 ∷ [])
+    ∷ showing crossing (with (at 0 Running 1 None) (moving Walk 1)) (2 ∷ 0 ∷ 2 ∷ [])
+    ∷ showing crossing (with (at 0 Running 1 None) (moving ClearanceOne 1)) (2 ∷ 0 ∷ 3 ∷ [])
+    ∷ showing crossing (with (at 0 Yellow 1 (Some 1)) (moving ClearanceTwo 1)) (1 ∷ 0 ∷ 3 ∷ [])
     ∷ showing crossing (resting 1) (2 ∷ 0 ∷ 0 ∷ [])
     ∷ showing eight_crossings eighth_walks (0 ∷ 0 ∷ 0 ∷ 0 ∷ 0 ∷ 0 ∷ 0 ∷ 2 ∷ 0 ∷ 2 ∷ [])
     ∷ []
@@ -153,7 +153,7 @@ abbrev fresh_by : Times → TimedState
 fresh_by times =
     record {
       core = record {
-        position = record { phase = 0; interval = StartRed; age = 1; previous = Nothing; target = Nothing };
+        position = record { phase = 0; interval = StartRed; age = 1; previous = None; target = None };
         counts = record { gap = 0; maximum = 0 };
         demands = record { locks = 0; buttons = 0 };
         movements = replicate 8 idle;
@@ -179,7 +179,7 @@ long_red = put_two three_phases 34 50
 -- a line of a trace: space, phase, space, interval, space, the groups, and the end of the line; as ASCII codes
 abbrev line_of : ℕ → Interval → ℕ → ℕ → CallCase
 line_of phase interval phase_letter interval_letter =
-    printing (at phase interval 1 Nothing) (0 ∷ 1 ∷ 2 ∷ 3 ∷ []) (32 ∷ phase_letter ∷ 32 ∷ interval_letter ∷ 32 ∷ 82 ∷ 89 ∷ 71 ∷ 70 ∷ 10 ∷ [])
+    printing (at phase interval 1 None) (0 ∷ 1 ∷ 2 ∷ 3 ∷ []) (32 ∷ phase_letter ∷ 32 ∷ interval_letter ∷ 32 ∷ 82 ∷ 89 ∷ 71 ∷ 70 ∷ 10 ∷ [])
 
 unfoldable pub answer_cases : List CallCase
 answer_cases =

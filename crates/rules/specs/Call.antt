@@ -1,5 +1,5 @@
 -- A step call: from personality bytes, a state, 64 input bits and a colour buffer of any content to the answer and the buffer afterwards.
-use Rattle.std.specs.Prelude.{ℕ, ◌+◌, Bool, not, ◌&&◌, ◌||◌, List, ◌++◌, leb, ltb, drop}
+use Rattle.std.specs.Prelude.{ℕ, ◌+◌, Bool, not, ◌&&◌, ◌||◌, List, ◌++◌, leb, ltb, drop, Ok, Err}
 use Rattle.rules.specs.Types.{Outcome, Stepped, StepRefused, Verdict, Accepted, Refused, Site, State}
 use Rattle.laws.specs.Folds.{any_of}
 use Rattle.laws.specs.Bytes.{bit}
@@ -26,18 +26,18 @@ step_verdict site is_valid inputs room =
 
 -- an accepted step reports the wait
 unfoldable pub bound_for : Verdict → ℕ → Outcome
-bound_for Accepted wait = Stepped wait
-bound_for (Refused number place) wait = StepRefused number place
+bound_for (Ok _) wait = Stepped wait
+bound_for (Err r) wait = StepRefused r.number r.place
 
 -- a refusal hands back the old state
 unfoldable pub handed_back : {S : Type 0} → Verdict → S → S → S
-handed_back Accepted new old = new
-handed_back (Refused number place) new old = old
+handed_back (Ok _) new old = new
+handed_back (Err r) new old = old
 
 -- the first N bytes become the colours of the new state, and the others do not change; after a refusal no byte changes
 unfoldable pub buffer_for : Verdict → Site → State → List ℕ → List ℕ
-buffer_for Accepted site new buffer = colours_of site new ++ drop site.size.groups buffer
-buffer_for (Refused number place) site new buffer = buffer
+buffer_for (Ok _) site new buffer = colours_of site new ++ drop site.size.groups buffer
+buffer_for (Err r) site new buffer = buffer
 
 -- the whole check of a step call, by the verdict on a personality and the test of a valid state: the personality first
 unfoldable pub checks_by : {S : Type 0} → (List ℕ → Verdict) → (Site → S → Bool) → List ℕ → S → ℕ → ℕ → Verdict

@@ -3,8 +3,8 @@
 -- parts of a step), AnswerCases (inputs, buffers, colours and other answers) and TimedCases (times in the state). All of them compute in seconds, and each
 -- must-fail edit of the rules makes one of them fail. All other worked cases are in proof_cases, also the starred ones of document 01; some of those
 -- are repeated here, because an edit needs them.
-use Rattle.std.specs.Prelude.{ℕ, ◌^◌, List, [], ◌∷◌, ◌++◌, ◌≡◌, length, replicate, set}
-use Rattle.rules.specs.Types.{Outcome, Stepped, StepRefused, Report, Verdict, Accepted, Refused, Site, Counts, Demands, Held, Nothing, Phase, Interval, Running, EarlyCutOff, Yellow, AllRed, KeptState, Movement, Position, Stage, Walk, ClearanceOne, ClearanceTwo}
+use Rattle.std.specs.Prelude.{ℕ, ◌^◌, List, [], ◌∷◌, ◌++◌, ◌≡◌, length, replicate, set, Option, Some, None}
+use Rattle.rules.specs.Types.{Outcome, Stepped, StepRefused, Report, Verdict, Accepted, Refused, Site, Counts, Demands, Interval, Running, EarlyCutOff, Yellow, AllRed, KeptState, Movement, Position, Stage, Walk, ClearanceOne, ClearanceTwo}
 use Rattle.rules.specs.Personality.{group_count, verdict_of}
 use Rattle.rules.specs.Lookup.{lookup_verdict, lookup_report, section_of}
 use Rattle.rules.specs.Site.{site_of, times_in}
@@ -79,8 +79,8 @@ AllHold Holds (c ∷ cases) = Holds c × AllHold Holds cases
 -- ── Writing a state; as a set, 1 is A or the first movement, 2 is B, and 6 is B and C ──
 
 -- a phase, its interval, the interval's age and the target; came-from is none
-abbrev pub at : ℕ → Interval → ℕ → Held → Position
-at phase interval age target = record { phase = phase; interval = interval; age = age; previous = Nothing; target = target }
+abbrev pub at : ℕ → Interval → ℕ → Option ℕ → Position
+at phase interval age target = record { phase = phase; interval = interval; age = age; previous = None; target = target }
 
 infix 6 gap◌max◌
 abbrev pub gap◌max◌ : ℕ → ℕ → Counts
@@ -131,11 +131,11 @@ declining b s inputs number = answering b (ruled_by b s) inputs (StepRefused num
 
 -- the target is B, which has a lock
 abbrev for_b : Interval → ℕ → KeptState
-for_b interval age = state (at 0 interval age (Phase 1)) (gap 0 max 1) (locks 2 buttons 0) idle 2
+for_b interval age = state (at 0 interval age (Some 1)) (gap 0 max 1) (locks 2 buttons 0) idle 2
 
 -- the target is C, which has a lock; B has one too by now
 abbrev for_c : Interval → ℕ → KeptState
-for_c interval age = state (at 0 interval age (Phase 2)) (gap 0 max 1) (locks 6 buttons 0) idle 6
+for_c interval age = state (at 0 interval age (Some 2)) (gap 0 max 1) (locks 6 buttons 0) idle 6
 
 -- ── The list and its statement ──
 
@@ -181,26 +181,26 @@ call_cases =
     ∷ declining junction (for_b EarlyCutOff 1) 0 13
     ∷ stepping (junction ++ cut_offs (0 ∷ 0 ∷ [])) (for_b EarlyCutOff 1) 0 270 (for_b Yellow 1)
     -- part 1: a locking detector of the phase locks in early cut-off green
-    ∷ stepping (junction ++ cut_offs (20 ∷ 0 ∷ [])) (for_b EarlyCutOff 5) 1 310 (state (at 0 EarlyCutOff 6 (Phase 1)) (gap 0 max 1) (locks 3 buttons 0) idle 3)
+    ∷ stepping (junction ++ cut_offs (20 ∷ 0 ∷ [])) (for_b EarlyCutOff 5) 1 310 (state (at 0 EarlyCutOff 6 (Some 1)) (gap 0 max 1) (locks 3 buttons 0) idle 3)
     -- and a press is registered while its movement is in C1
-    ∷ stepping crossing (state (at 0 Running 40 Nothing) (gap 0 max 1) (locks 2 buttons 0) (moving ClearanceOne 5) 2) (2 ^ 48) 410 (state (at 0 Running 41 Nothing) (gap 0 max 2) (locks 2 buttons 1) (moving ClearanceOne 6) 3)
+    ∷ stepping crossing (state (at 0 Running 40 None) (gap 0 max 1) (locks 2 buttons 0) (moving ClearanceOne 5) 2) (2 ^ 48) 410 (state (at 0 Running 41 None) (gap 0 max 2) (locks 2 buttons 1) (moving ClearanceOne 6) 3)
     -- part 2: a walk that has lasted W goes on while no other phase is demanded
-    ∷ stepping crossing (state (at 0 Running 40 Nothing) (gap 0 max 0) (locks 0 buttons 0) (moving Walk 10) 0) 0 410 (state (at 0 Running 41 Nothing) (gap 0 max 0) (locks 0 buttons 0) (moving Walk 11) 0)
+    ∷ stepping crossing (state (at 0 Running 40 None) (gap 0 max 0) (locks 0 buttons 0) (moving Walk 10) 0) 0 410 (state (at 0 Running 41 None) (gap 0 max 0) (locks 0 buttons 0) (moving Walk 11) 0)
     -- also if B is demanded, but the gap count is 0 only after part 3
-    ∷ stepping crossing (state (at 0 Running 40 Nothing) (gap 1 max 1) (locks 2 buttons 0) (moving Walk 10) 2) 0 410 (state (at 0 Running 41 Nothing) (gap 0 max 2) (locks 2 buttons 0) (moving Walk 11) 2)
+    ∷ stepping crossing (state (at 0 Running 40 None) (gap 1 max 1) (locks 2 buttons 0) (moving Walk 10) 2) 0 410 (state (at 0 Running 41 None) (gap 0 max 2) (locks 2 buttons 0) (moving Walk 11) 2)
     -- part 3: the maximum count goes on rising while the non-locking call of B is away
-    ∷ stepping calling_b (state (at 0 Running 40 Nothing) (gap 0 max 5) (locks 0 buttons 0) idle 0) 0 270 (state (at 0 Running 41 Nothing) (gap 0 max 6) (locks 0 buttons 0) idle 0)
+    ∷ stepping calling_b (state (at 0 Running 40 None) (gap 0 max 5) (locks 0 buttons 0) idle 0) 0 270 (state (at 0 Running 41 None) (gap 0 max 6) (locks 0 buttons 0) idle 0)
     -- part 4: running ends, and a time of 0 skips early cut-off green
-    ∷ stepping (turning ++ cut_offs (0 ∷ 0 ∷ [])) (state (at 0 Running 1 Nothing) (gap 0 max 0) (locks 2 buttons 0) idle 2) 0 270 (for_b Yellow 1)
+    ∷ stepping (turning ++ cut_offs (0 ∷ 0 ∷ [])) (state (at 0 Running 1 None) (gap 0 max 0) (locks 2 buttons 0) idle 2) 0 270 (for_b Yellow 1)
     -- in the order A, C, B the target after A is C if both others are demanded
-    ∷ stepping (three_phases ++ ordered (0 ∷ 2 ∷ 1 ∷ [])) (state (at 0 Running 1 Nothing) (gap 0 max 0) (locks 6 buttons 0) idle 6) 0 400 (for_c Yellow 1)
+    ∷ stepping (three_phases ++ ordered (0 ∷ 2 ∷ 1 ∷ [])) (state (at 0 Running 1 None) (gap 0 max 0) (locks 6 buttons 0) idle 6) 0 400 (for_c Yellow 1)
     -- the target stays C over the end of early cut-off green, and over that of yellow, though B would be next
     ∷ stepping (three_phases ++ cut_offs (20 ∷ 0 ∷ 0 ∷ [])) (for_c EarlyCutOff 20) 0 440 (for_c Yellow 1)
     ∷ stepping three_phases (for_c Yellow 30) 0 400 (for_c AllRed 1)
     -- yellow lasts Y, which is 30, and not R, which is 10
     ∷ stepping junction (for_b Yellow 10) 0 270 (for_b Yellow 11)
     -- all-red stays past R while a movement is in C2
-    ∷ stepping crossing (state (at 0 AllRed 10 (Phase 1)) (gap 0 max 1) (locks 2 buttons 0) (moving ClearanceTwo 40) 2) 0 410 (state (at 0 AllRed 11 (Phase 1)) (gap 0 max 1) (locks 2 buttons 0) (moving ClearanceTwo 41) 2)
+    ∷ stepping crossing (state (at 0 AllRed 10 (Some 1)) (gap 0 max 1) (locks 2 buttons 0) (moving ClearanceTwo 40) 2) 0 410 (state (at 0 AllRed 11 (Some 1)) (gap 0 max 1) (locks 2 buttons 0) (moving ClearanceTwo 41) 2)
     -- a group that has the target in its set stays green in yellow, and in early cut-off green if it stops early
     ∷ showing overlap (for_b Yellow 1) (yellow ∷ red ∷ green ∷ red ∷ [])
     ∷ showing (turning_both ++ cut_offs (20 ∷ 0 ∷ [])) (for_b EarlyCutOff 1) (green ∷ green ∷ red ∷ [])

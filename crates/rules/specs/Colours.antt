@@ -1,6 +1,6 @@
 -- The colours that the groups show in a state.
-use Rattle.std.specs.Prelude.{ℕ, ◌+◌, Bool, not, ◌&&◌, ◌||◌, List, ◌++◌, ◌≡◌, eqb, leb, drop, get_or, if◌then◌else◌}
-use Rattle.rules.specs.Types.{Group, PhaseTimes, Site, Times, Held, Interval, StartRed, LateStart, MinimumGreen, Running, EarlyCutOff, Yellow, AllRed, Movement, Position, Stage, Idle, Walk, ClearanceOne, ClearanceTwo, State}
+use Rattle.std.specs.Prelude.{ℕ, ◌+◌, Bool, not, ◌&&◌, ◌||◌, List, ◌++◌, ◌≡◌, eqb, leb, drop, get_or, if◌then◌else◌, Option}
+use Rattle.rules.specs.Types.{Group, PhaseTimes, Site, Times, Interval, StartRed, LateStart, MinimumGreen, Running, EarlyCutOff, Yellow, AllRed, Movement, Position, Stage, Idle, Walk, ClearanceOne, ClearanceTwo, State}
 use Rattle.laws.specs.Folds.{list_of}
 use Rattle.laws.specs.Bytes.{bit}
 use Rattle.rules.specs.Site.{group_of, phase_times, is_pedestrian, movement_of}
@@ -36,7 +36,7 @@ closing times position =
 -- The colour of a vehicle group that has the phase in its set. In late start a group of mark 1 is red, except if its set has came-from. In
 -- early cut-off green, yellow and all-red a group whose set also has the target stays green. Of the others, those of mark 3 are yellow
 -- while they are closing, then red; the rest are green in early cut-off green, then yellow, then red.
-unfoldable pub vehicle_colour : Interval → Bool → Held → Held → Group → ℕ
+unfoldable pub vehicle_colour : Interval → Bool → Option ℕ → Option ℕ → Group → ℕ
 vehicle_colour StartRed closes previous target group = red
 vehicle_colour LateStart closes previous target group =
     if eqb group.mark 1 && not (held_in previous group.phases) then red else green

@@ -1,6 +1,6 @@
 -- Part 1 of a step: demands.
-use Rattle.std.specs.Prelude.{ℕ, ◌+◌, ◌%◌, Bool, not, ◌&&◌, ◌||◌, List, [], ◌∷◌, ◌++◌, eqb, leb, get_or, if◌then◌else◌}
-use Rattle.rules.specs.Types.{Detector, Site, Demands, Held, Nothing, Phase, Movement, Position, State}
+use Rattle.std.specs.Prelude.{ℕ, ◌+◌, ◌%◌, Bool, not, ◌&&◌, ◌||◌, List, [], ◌∷◌, ◌++◌, eqb, leb, get_or, if◌then◌else◌, Option, Some, None}
+use Rattle.rules.specs.Types.{Detector, Site, Demands, Movement, Position, State}
 use Rattle.laws.specs.Folds.{any_of, set_of}
 use Rattle.laws.specs.Bytes.{bit}
 use Rattle.rules.specs.Site.{detector_of, crosses, ring}
@@ -88,15 +88,15 @@ unfoldable pub before : ℕ → List ℕ → List ℕ
 before p [] = []
 before p (q ∷ rest) = if eqb q p then [] else q ∷ before p rest
 
-unfoldable pub first_in : (ℕ → Bool) → List ℕ → Held
-first_in test [] = Nothing
-first_in test (p ∷ rest) = if test p then Phase p else first_in test rest
+unfoldable pub first_in : (ℕ → Bool) → List ℕ → Option ℕ
+first_in test [] = None
+first_in test (p ∷ rest) = if test p then Some p else first_in test rest
 
 -- the first phase after p in the cycle that passes the test, or nothing if no other phase passes
-unfoldable pub next_after : List ℕ → ℕ → (ℕ → Bool) → Held
+unfoldable pub next_after : List ℕ → ℕ → (ℕ → Bool) → Option ℕ
 next_after phases p test = first_in test (after p phases ++ before p phases)
 
 -- the first demanded phase after the phase of the state, or nothing if no other phase is demanded
-unfoldable pub next_demanded : Site → State → ℕ → Held
+unfoldable pub next_demanded : Site → State → ℕ → Option ℕ
 next_demanded site s inputs =
     next_after (ring site.order site.size.phases) s.position.phase (demanded site s inputs)

@@ -1,6 +1,6 @@
 -- Part 4 of a step: the interval. At most one change is made in a step.
-use Rattle.std.specs.Prelude.{ℕ, Bool, not, ◌&&◌, ◌||◌, List, eqb, leb, get_or, if◌then◌else◌}
-use Rattle.rules.specs.Types.{PhaseTimes, Times, Counts, Held, Nothing, Phase, Interval, StartRed, LateStart, MinimumGreen, Running, EarlyCutOff, Yellow, AllRed, Movement, Position, Stage}
+use Rattle.std.specs.Prelude.{ℕ, Bool, not, ◌&&◌, ◌||◌, List, eqb, leb, get_or, if◌then◌else◌, Option, Some, None}
+use Rattle.rules.specs.Types.{PhaseTimes, Times, Counts, Interval, StartRed, LateStart, MinimumGreen, Running, EarlyCutOff, Yellow, AllRed, Movement, Position, Stage}
 use Rattle.laws.specs.Bytes.{bit}
 use Rattle.laws.specs.Folds.{any_of, set_of}
 use Rattle.rules.specs.Site.{phase_times}
@@ -29,44 +29,44 @@ ends AllRed start times age another movements counts = leb times.red age && not 
 -- ── What follows it ──
 
 -- an interval of the same phase, at an age
-abbrev pub same_phase : Interval → ℕ → Held → Position → Position
+abbrev pub same_phase : Interval → ℕ → Option ℕ → Position → Position
 same_phase interval age target position =
     record { phase = position.phase; interval = interval; age = age; previous = position.previous; target = target }
 
 -- the next interval of the same phase, at age 1
-unfoldable pub entering : Interval → Held → Position → Position
+unfoldable pub entering : Interval → Option ℕ → Position → Position
 entering interval target position = same_phase interval 1 target position
 
 -- the position in which phase p starts: late start, or minimum green if its L is 0
-unfoldable pub starting : Times → ℕ → Held → Position
+unfoldable pub starting : Times → ℕ → Option ℕ → Position
 starting times p previous =
     record {
       phase = p;
       interval = if eqb (phase_times times p).late 0 then MinimumGreen else LateStart;
       age = 1;
       previous = previous;
-      target = Nothing;
+      target = None;
     }
 
 -- the position after running: early cut-off green, or yellow if E is 0; the phase that is demanded next in this step becomes the target
-unfoldable pub leaving : Times → Held → Position → Position
+unfoldable pub leaving : Times → Option ℕ → Position → Position
 leaving times next position =
     entering (if eqb (phase_times times position.phase).early 0 then Yellow else EarlyCutOff) next position
 
-unfoldable pub following : Interval → Times → Held → Position → Position
+unfoldable pub following : Interval → Times → Option ℕ → Position → Position
 following StartRed times next position = starting times position.phase position.previous
-following LateStart times next position = entering MinimumGreen Nothing position
-following MinimumGreen times next position = entering Running Nothing position
+following LateStart times next position = entering MinimumGreen None position
+following MinimumGreen times next position = entering Running None position
 following Running times next position = leaving times next position
 following EarlyCutOff times next position = entering Yellow position.target position
 following Yellow times next position = entering AllRed position.target position
-following AllRed times next position = starting times (phase_held position.target) (Phase position.phase)
+following AllRed times next position = starting times (phase_held position.target) (Some position.phase)
 
 -- the same interval, one step older
 unfoldable pub staying : Position → Position
 staying position = same_phase position.interval (older position.age) position.target position
 
-unfoldable pub position_after : Bool → Times → Held → Position → Position
+unfoldable pub position_after : Bool → Times → Option ℕ → Position → Position
 position_after ended times next position =
     if ended then following position.interval times next position else staying position
 

@@ -1,6 +1,6 @@
 -- A table row for each interval and each stage, the tests of the rules that read the row, and tests of a phase-or-none value.
-use Rattle.std.specs.Prelude.{ℕ, Bool, true, false, ◌&&◌, List, [], ◌∷◌}
-use Rattle.rules.specs.Types.{Held, Nothing, Phase, Interval, StartRed, LateStart, MinimumGreen, Running, EarlyCutOff, Yellow, AllRed, IntervalRow, Stage, Idle, Walk, ClearanceOne, ClearanceTwo, StageRow}
+use Rattle.std.specs.Prelude.{ℕ, Bool, true, false, ◌&&◌, List, [], ◌∷◌, Option, Some, None}
+use Rattle.rules.specs.Types.{Interval, StartRed, LateStart, MinimumGreen, Running, EarlyCutOff, Yellow, AllRed, IntervalRow, Stage, Idle, Walk, ClearanceOne, ClearanceTwo, StageRow}
 use Rattle.laws.specs.Bytes.{bit}
 
 -- ── Intervals ──
@@ -78,16 +78,16 @@ is_second stage = (stage_row stage).second
 
 -- ── A phase or none ──
 
-unfoldable pub is_held : Held → Bool
-is_held Nothing = false
-is_held (Phase p) = true
+unfoldable pub is_held : Option ℕ → Bool
+is_held None = false
+is_held (Some p) = true
 
 -- the phase, or 0 if there is none
-unfoldable pub phase_held : Held → ℕ
-phase_held Nothing = 0
-phase_held (Phase p) = p
+unfoldable pub phase_held : Option ℕ → ℕ
+phase_held None = 0
+phase_held (Some p) = p
 
 -- there is a phase, and it is in the set
-unfoldable pub held_in : Held → ℕ → Bool
-held_in Nothing set = false
-held_in (Phase p) set = bit p set
+unfoldable pub held_in : Option ℕ → ℕ → Bool
+held_in None set = false
+held_in (Some p) set = bit p set

@@ -1,7 +1,7 @@
 -- The kept set: the phases that have a locked demand or a demanded movement, kept in the state and updated in each step. Calls without lock
 -- count beside it, in their step only.
-use Rattle.std.specs.Prelude.{ℕ, Bool, not, ◌&&◌, ◌||◌, List, eqb}
-use Rattle.rules.specs.Types.{Site, Times, Demands, Held, KeptState, Movement}
+use Rattle.std.specs.Prelude.{ℕ, Bool, not, ◌&&◌, ◌||◌, List, eqb, Option}
+use Rattle.rules.specs.Types.{Site, Times, Demands, KeptState, Movement}
 use Rattle.laws.specs.Bytes.{bit}
 use Rattle.laws.specs.Folds.{any_of, set_of}
 use Rattle.rules.specs.Site.{crosses, ring}
@@ -36,7 +36,7 @@ kept_after site s inputs p =
     || press_keeps s.core.movements site.crossings site.size.movements inputs p
 
 -- the first phase after this one that is in the set or has a call
-unfoldable pub next_kept : Site → KeptState → ℕ → Held
+unfoldable pub next_kept : Site → KeptState → ℕ → Option ℕ
 next_kept site s inputs =
     next_after (ring site.order site.size.phases) s.core.position.phase
     (λ p. kept_after site s inputs p || calls site s.core inputs p)

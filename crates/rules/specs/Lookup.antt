@@ -1,5 +1,5 @@
 -- The section lookup: the body of a section as a part of the personality, and the number and place of the report.
-use Rattle.std.specs.Prelude.{ℕ, ◌-◌, Bool, not, ◌&&◌, ◌||◌, List, [], ◌∷◌, eqb, leb, take, drop, get_or}
+use Rattle.std.specs.Prelude.{ℕ, ◌-◌, Bool, not, ◌&&◌, ◌||◌, List, [], ◌∷◌, eqb, leb, take, drop, get_or, Ok, Err}
 use Rattle.rules.specs.Types.{Verdict, Accepted, Refused, Report}
 use Rattle.rules.specs.Verdicts.{◌or_else◌, refuse_if}
 use Rattle.rules.specs.Personality.{verdict_of, body_at, body_length, edition_of, site_kind, site_head, phases_head, groups_head, conflicts_head, detectors_head, pedestrians_head, early_head, has_early, order_head, has_order}
@@ -36,8 +36,8 @@ lookup_verdict b kind = verdict_of b or_else refuse_if (not (held_kind b kind)) 
 
 -- the number and place of a verdict, 0 and 0 if it is acceptance
 unfoldable pub report_of : Verdict → Report
-report_of Accepted = record { number = 0; place = 0 }
-report_of (Refused number place) = record { number = number; place = place }
+report_of (Ok _) = record { number = 0; place = 0 }
+report_of (Err r) = record { number = r.number; place = r.place }
 
 unfoldable pub lookup_report : List ℕ → ℕ → Report
 lookup_report b kind = report_of (lookup_verdict b kind)
@@ -47,8 +47,8 @@ unfoldable pub section_part : List ℕ → ℕ → List ℕ
 section_part b kind = take (body_length b (head_of b kind)) (drop (body_at (head_of b kind)) b)
 
 unfoldable pub part_for : Verdict → List ℕ → List ℕ
-part_for Accepted part = part
-part_for (Refused number place) part = []
+part_for (Ok _) part = part
+part_for (Err r) part = []
 
 unfoldable pub section_of : List ℕ → ℕ → List ℕ
 section_of b kind = part_for (lookup_verdict b kind) (section_part b kind)

@@ -1,5 +1,5 @@
 -- Runs: lists of step and retiming calls on one personality, and how a controller takes them. Some of the calls may be refused.
-use Rattle.std.specs.Prelude.{ℕ, Bool, not, ◌&&◌, List, [], ◌∷◌, ◌≡◌, length}
+use Rattle.std.specs.Prelude.{ℕ, Bool, not, ◌&&◌, List, [], ◌∷◌, ◌≡◌, length, Ok, Err}
 use Rattle.rules.specs.Types.{Outcome, Stepped, StepRefused, Verdict, Accepted, Site, Times, State}
 use Rattle.rules.specs.Personality.{verdict_of}
 use Rattle.rules.specs.Site.{site_of, times_in}
@@ -118,8 +118,8 @@ module _ {S : Type 0} (controller : Controller S) (b : List ℕ) where
 
 -- a refused step call is left out: it has no colours, registers no demand and does not count as a step
 unfoldable pub if_accepted : Outcome → Step → List Step → List Step
-if_accepted (Stepped wait) step later = step ∷ later
-if_accepted (StepRefused number place) step later = later
+if_accepted (Ok wait) step later = step ∷ later
+if_accepted (Err r) step later = later
 
 -- the accepted steps of a list of calls
 unfoldable pub accepted_steps : List Taken → List Step

@@ -1,7 +1,7 @@
 -- The rules without the kept set: each step finds the demanded phases by a scan. And the statements that the kept set equals this scan and
 -- changes nothing else.
-use Rattle.std.specs.Prelude.{ℕ, ◌<◌, Bool, true, ◌&&◌, List, ◌≡◌, if◌then◌else◌}
-use Rattle.rules.specs.Types.{Accepted, Site, Held, KeptState, State}
+use Rattle.std.specs.Prelude.{ℕ, ◌<◌, Bool, true, ◌&&◌, List, ◌≡◌, if◌then◌else◌, Option}
+use Rattle.rules.specs.Types.{Accepted, Site, KeptState, State}
 use Rattle.rules.specs.Personality.{verdict_of}
 use Rattle.rules.specs.Site.{site_of}
 use Rattle.rules.specs.State.{valid}
@@ -19,7 +19,7 @@ unfoldable pub scan_valid : Site → TimedState → Bool
 scan_valid site s = admitted site s.ruling && waiting_valid site s.waiting && valid (ruled_site site s) s.core
 
 -- The step does not read the kept set, and leaves it empty. `find` gives the phase that is demanded next.
-unfoldable pub stepped_finding : (Site → State → ℕ → Held) → Site → TimedState → ℕ → TimedState
+unfoldable pub stepped_finding : (Site → State → ℕ → Option ℕ) → Site → TimedState → ℕ → TimedState
 stepped_finding find site s inputs =
     let over = takes_over site s in
     let old = ruled_site site s in
@@ -34,7 +34,7 @@ stepped_finding find site s inputs =
     }
 
 -- the controller that finds the next phase so
-abbrev pub finding : (Site → State → ℕ → Held) → Controller TimedState
+abbrev pub finding : (Site → State → ℕ → Option ℕ) → Controller TimedState
 finding find = controller_of verdict_of scan_valid (stepped_finding find) wait_bound retimed
 
 unfoldable pub scanning : Controller TimedState

@@ -1,6 +1,6 @@
 -- The fresh state, and the valid states of a site, clause by clause.
-use Rattle.std.specs.Prelude.{ℕ, Bool, true, not, ◌&&◌, ◌||◌, List, eqb, leb, ltb, get_or, replicate}
-use Rattle.rules.specs.Types.{PhaseTimes, Site, Counts, Demands, Held, Nothing, Phase, Interval, StartRed, Movement, Position, Idle, State}
+use Rattle.std.specs.Prelude.{ℕ, Bool, true, not, ◌&&◌, ◌||◌, List, eqb, leb, ltb, get_or, replicate, Option, Some, None}
+use Rattle.rules.specs.Types.{PhaseTimes, Site, Counts, Demands, Interval, StartRed, Movement, Position, Idle, State}
 use Rattle.laws.specs.Bytes.{bit}
 use Rattle.laws.specs.Folds.{all_of}
 use Rattle.rules.specs.IntervalTable.{is_idle, is_walk_or_first, is_start_red, is_early, is_leaving}
@@ -16,7 +16,7 @@ no_counts = record { gap = 0; maximum = 0 }
 unfoldable pub fresh : State
 fresh =
     record {
-      position = record { phase = 0; interval = StartRed; age = 1; previous = Nothing; target = Nothing };
+      position = record { phase = 0; interval = StartRed; age = 1; previous = None; target = None };
       counts = no_counts;
       demands = record { locks = 0; buttons = 0 };
       movements = replicate 8 idle;
@@ -43,14 +43,14 @@ unfoldable pub interval_valid : Bool → Interval → Bool
 interval_valid early interval = early || not (is_early interval)
 
 -- in a leaving interval the target is another phase; in the other intervals there is none
-unfoldable pub target_valid : ℕ → ℕ → Bool → Held → Bool
-target_valid count phase leaving Nothing = not leaving
-target_valid count phase leaving (Phase t) = leaving && ltb t count && not (eqb t phase)
+unfoldable pub target_valid : ℕ → ℕ → Bool → Option ℕ → Bool
+target_valid count phase leaving None = not leaving
+target_valid count phase leaving (Some t) = leaving && ltb t count && not (eqb t phase)
 
 -- came-from a phase or none
-unfoldable pub previous_valid : ℕ → Held → Bool
-previous_valid count Nothing = true
-previous_valid count (Phase q) = ltb q count
+unfoldable pub previous_valid : ℕ → Option ℕ → Bool
+previous_valid count None = true
+previous_valid count (Some q) = ltb q count
 
 unfoldable pub age_valid : ℕ → Bool
 age_valid age = leb 1 age && leb age highest_age

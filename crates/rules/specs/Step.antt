@@ -1,6 +1,6 @@
 -- One step: the five parts in order. The phase that is demanded next is an argument.
-use Rattle.std.specs.Prelude.{ℕ}
-use Rattle.rules.specs.Types.{Site, Times, Held, State}
+use Rattle.std.specs.Prelude.{ℕ, Option}
+use Rattle.rules.specs.Types.{Site, Times, State}
 use Rattle.rules.specs.Site.{phase_times}
 use Rattle.rules.specs.IntervalTable.{is_held}
 use Rattle.rules.specs.Demands.{demands_after, next_demanded, detected, extending}
@@ -10,7 +10,7 @@ use Rattle.rules.specs.Interval.{ends, position_after, counts_changed, locks_lef
 use Rattle.rules.specs.Walks.{begins, walks_begun, buttons_left}
 
 -- The times that rule from the end of the interval on are an argument; they are the site's own unless other times take over in this step.
-unfoldable pub stepped_into : Times → Held → Site → State → ℕ → State
+unfoldable pub stepped_into : Times → Option ℕ → Site → State → ℕ → State
 stepped_into ruling next site s inputs =
     let old = s.position in
     let times = phase_times site.times old.phase in
@@ -35,7 +35,7 @@ stepped_into ruling next site s inputs =
     }
 
 -- the step by the site's own times
-unfoldable pub stepped_to : Held → Site → State → ℕ → State
+unfoldable pub stepped_to : Option ℕ → Site → State → ℕ → State
 stepped_to next site s inputs = stepped_into site.times next site s inputs
 
 -- the phase demanded next is found by a scan of the locks and the demanded movements

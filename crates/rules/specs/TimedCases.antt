@@ -1,7 +1,7 @@
 -- Worked cases of one call on a timed state, as one list with one statement: every case holds. Each can be checked by hand with the papers, and
 -- each must-fail edit of the rules about times makes one of them fail. Runs with retiming calls among them are in proof_cases.
-use Rattle.std.specs.Prelude.{ℕ, true, false, List, [], ◌∷◌, ◌++◌, replicate, set}
-use Rattle.rules.specs.Types.{Stepped, StepRefused, Accepted, Refused, PhaseTimes, Times, Nothing, Phase, Interval, StartRed, LateStart, MinimumGreen, Yellow, AllRed, KeptState, Walk, ClearanceTwo}
+use Rattle.std.specs.Prelude.{ℕ, true, false, List, [], ◌∷◌, ◌++◌, replicate, set, Some, None}
+use Rattle.rules.specs.Types.{Stepped, StepRefused, Accepted, Refused, PhaseTimes, Times, Interval, StartRed, LateStart, MinimumGreen, Yellow, AllRed, KeptState, Walk, ClearanceTwo}
 use Rattle.rules.specs.Site.{no_phase_times, no_walk_times, times_in}
 use Rattle.rules.specs.State.{idle}
 use Rattle.rules.specs.Timed.{TimedState, Waiting, none_waiting}
@@ -70,20 +70,20 @@ refusing b s new number place = retiming b s new (Refused number place) s
 
 -- start red of A at an age, no demands
 abbrev red_start : ℕ → KeptState
-red_start age = state (at 0 StartRed age Nothing) (gap 3 max 7) (locks 0 buttons 0) idle 0
+red_start age = state (at 0 StartRed age None) (gap 3 max 7) (locks 0 buttons 0) idle 0
 
 -- the same with counts of 0
 abbrev calm_start : ℕ → KeptState
-calm_start age = state (at 0 StartRed age Nothing) (gap 0 max 0) (locks 0 buttons 0) idle 0
+calm_start age = state (at 0 StartRed age None) (gap 0 max 0) (locks 0 buttons 0) idle 0
 
 -- A being left for B, which has a lock; A has one too
 abbrev for_b : Interval → ℕ → KeptState
-for_b interval age = state (at 0 interval age (Phase 1)) (gap 0 max 1) (locks 3 buttons 0) idle 3
+for_b interval age = state (at 0 interval age (Some 1)) (gap 0 max 1) (locks 3 buttons 0) idle 3
 
 -- B after A, in its first step; the lock of A stands
 abbrev start_of : Interval → ℕ → ℕ → ℕ → KeptState
 start_of interval gap_count demands kept =
-    state (record { phase = 1; interval = interval; age = 1; previous = Phase 0; target = Nothing }) (gap gap_count max 0) (locks demands buttons 0) idle kept
+    state (record { phase = 1; interval = interval; age = 1; previous = Some 0; target = None }) (gap gap_count max 0) (locks demands buttons 0) idle kept
 
 -- ── Bytes ──
 
@@ -102,10 +102,10 @@ timed_cases =
     -- also if the new R is longer: all-red does not go on
     ∷ answering junction (ruled_until junction slower (for_b AllRed 9)) 0 (Stepped 270) (ruled_until junction slower (for_b AllRed 10))
     -- start red ends by the old time, and both counts are 0 first
-    ∷ answering junction (ruled_until junction slower (red_start 10)) 0 (Stepped 460) (ruled_by slower (state (at 0 MinimumGreen 1 Nothing) (gap 10 max 0) (locks 0 buttons 0) idle 0))
+    ∷ answering junction (ruled_until junction slower (red_start 10)) 0 (Stepped 460) (ruled_by slower (state (at 0 MinimumGreen 1 None) (gap 10 max 0) (locks 0 buttons 0) idle 0))
     ∷ answering junction (ruled_until junction slower (red_start 9)) 0 (Stepped 270) (ruled_until junction slower (red_start 10))
     -- without waiting times they stay
-    ∷ answering junction (ruled_by junction (red_start 10)) 0 (Stepped 270) (ruled_by junction (state (at 0 MinimumGreen 1 Nothing) (gap 5 max 7) (locks 0 buttons 0) idle 0))
+    ∷ answering junction (ruled_by junction (red_start 10)) 0 (Stepped 270) (ruled_by junction (state (at 0 MinimumGreen 1 None) (gap 5 max 7) (locks 0 buttons 0) idle 0))
     -- a late start by the new times: the lock of B stands through it
     ∷ answering junction (ruled_until junction late_b (for_b AllRed 10)) 0 (Stepped 290) (ruled_by late_b (start_of LateStart 0 3 3))
     -- and none by the new times
@@ -113,9 +113,9 @@ timed_cases =
     -- equal times take over too
     ∷ answering junction (ruled_until junction junction (for_b AllRed 10)) 0 (Stepped 270) (ruled_by junction (start_of MinimumGreen 5 1 1))
     -- a walk begins in the change
-    ∷ answering crossing (ruled_until crossing other_walk (state (at 0 StartRed 10 Nothing) (gap 0 max 0) (locks 0 buttons 1) idle 1)) 0 (Stepped 400) (ruled_by other_walk (state (at 0 MinimumGreen 1 Nothing) (gap 5 max 0) (locks 0 buttons 0) (record { stage = Walk; age = 1 }) 0))
+    ∷ answering crossing (ruled_until crossing other_walk (state (at 0 StartRed 10 None) (gap 0 max 0) (locks 0 buttons 1) idle 1)) 0 (Stepped 400) (ruled_by other_walk (state (at 0 MinimumGreen 1 None) (gap 5 max 0) (locks 0 buttons 0) (record { stage = Walk; age = 1 }) 0))
     -- C2 ends by the old time, which is 50, and the start with it
-    ∷ answering crossing (ruled_until crossing other_walk (state (at 0 AllRed 40 (Phase 1)) (gap 0 max 1) (locks 2 buttons 0) (record { stage = ClearanceTwo; age = 30 }) 2)) 0 (Stepped 410) (ruled_until crossing other_walk (state (at 0 AllRed 41 (Phase 1)) (gap 0 max 1) (locks 2 buttons 0) (record { stage = ClearanceTwo; age = 31 }) 2))
+    ∷ answering crossing (ruled_until crossing other_walk (state (at 0 AllRed 40 (Some 1)) (gap 0 max 1) (locks 2 buttons 0) (record { stage = ClearanceTwo; age = 30 }) 2)) 0 (Stepped 410) (ruled_until crossing other_walk (state (at 0 AllRed 41 (Some 1)) (gap 0 max 1) (locks 2 buttons 0) (record { stage = ClearanceTwo; age = 31 }) 2))
     -- 13: a ruling or a waiting time outside its limits
     ∷ declining junction (ruled_by (put_two junction 20 29) (for_b Yellow 1)) 0 13
     ∷ declining junction (ruled_until junction (put_two junction 6 9) (for_b Yellow 1)) 0 13
@@ -137,7 +137,7 @@ timed_cases =
     ∷ declining junction (ruled_by_times (times_in junction) start_left_over (for_b Yellow 1)) 0 13
     ∷ declining junction (ruled_by_times (times_in junction) left_over (for_b Yellow 1)) 0 13
     -- 13: the gap count is above G of the ruling times, though not above that of the bytes
-    ∷ declining slower (ruled_by junction (state (at 0 StartRed 1 Nothing) (gap 6 max 0) (locks 0 buttons 0) idle 0)) 0 13
+    ∷ declining slower (ruled_by junction (state (at 0 StartRed 1 None) (gap 6 max 0) (locks 0 buttons 0) idle 0)) 0 13
     -- a retiming: the times wait, in the place of any that waited; equal ones too, and the bytes' own while others rule
     ∷ retiming junction (ruled_by junction (for_b Yellow 1)) slower Accepted (ruled_until junction slower (for_b Yellow 1))
     ∷ retiming junction (ruled_until junction slower (for_b Yellow 1)) late_b Accepted (ruled_until junction late_b (for_b Yellow 1))

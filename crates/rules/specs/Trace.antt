@@ -1,6 +1,6 @@
 -- The trace program: all that it prints, from all that it reads. Its input has three parts: two bytes with a length, a personality of that length,
 -- and 8 bytes for each step.
-use Rattle.std.specs.Prelude.{ℕ, zero, suc, ◌+◌, Bool, true, false, List, [], ◌++◌, eqb, ltb, length, take, drop, replicate, if◌then◌else◌}
+use Rattle.std.specs.Prelude.{ℕ, zero, suc, ◌+◌, Bool, true, false, List, [], ◌++◌, eqb, ltb, length, take, drop, replicate, if◌then◌else◌, Ok, Err}
 use Rattle.laws.specs.Bytes.{two_at, eight_at}
 use Rattle.rules.specs.Types.{Outcome, Stepped, StepRefused, Verdict, Accepted, Refused}
 use Rattle.rules.specs.Personality.{group_count, verdict_of}
@@ -39,8 +39,8 @@ length_part bytes = if ltb (length bytes) 2 then cut else goes_on []
 
 -- the personality: the header once it is accepted
 unfoldable pub verdict_part : Verdict → Part
-verdict_part Accepted = goes_on header
-verdict_part (Refused number place) = refusal number place
+verdict_part (Ok _) = goes_on header
+verdict_part (Err r) = refusal r.number r.place
 
 -- a personality that should have n bytes: 16 comes before its own checks
 unfoldable pub personality_part : ℕ → List ℕ → Part
@@ -57,8 +57,8 @@ abbrev pub call_in : List ℕ → StepCall
 call_in bytes = record { inputs = eight_at bytes 0; buffer = replicate 32 0 }
 
 unfoldable pub outcome_part : Outcome → List ℕ → Part
-outcome_part (Stepped wait) line = goes_on line
-outcome_part (StepRefused number place) line = refusal number place
+outcome_part (Ok wait) line = goes_on line
+outcome_part (Err r) line = refusal r.number r.place
 
 -- step n of a site with so many groups, as a controller took it
 unfoldable pub step_part : ℕ → ℕ → Step → Part

@@ -1,9 +1,7 @@
 -- The types that the code declares, with their variants, each by its own name: what `src/` says of them is not said again.
-pub use Rattle.rules.specs.declared.answer.Outcome.{Outcome}
-pub use Rattle.rules.specs.declared.answer.Outcome.TheVariants.{Stepped, StepRefused}
+pub use Rattle.rules.specs.Verdicts.{Verdict, Accepted, Refused, Outcome, Stepped, StepRefused}
+pub use Rattle.rules.specs.declared.answer.Refusal.{Refusal}
 pub use Rattle.rules.specs.declared.answer.Report.{Report}
-pub use Rattle.rules.specs.declared.answer.Verdict.{Verdict}
-pub use Rattle.rules.specs.declared.answer.Verdict.TheVariants.{Accepted, Refused}
 pub use Rattle.rules.specs.declared.site.Detector.{Detector}
 pub use Rattle.rules.specs.declared.site.Edition.{Edition}
 pub use Rattle.rules.specs.declared.site.Edition.TheVariants.{One, Two}
@@ -16,8 +14,6 @@ pub use Rattle.rules.specs.declared.site.Times.{Times}
 pub use Rattle.rules.specs.declared.site.WalkTimes.{WalkTimes}
 pub use Rattle.rules.specs.declared.state.Counts.{Counts}
 pub use Rattle.rules.specs.declared.state.Demands.{Demands}
-pub use Rattle.rules.specs.declared.state.Held.{Held}
-pub use Rattle.rules.specs.declared.state.Held.TheVariants.{Nothing, Phase}
 pub use Rattle.rules.specs.declared.state.Interval.{Interval}
 pub use Rattle.rules.specs.declared.state.Interval.TheVariants.{StartRed, LateStart, MinimumGreen, Running, EarlyCutOff, Yellow, AllRed}
 pub use Rattle.rules.specs.declared.state.IntervalRow.{IntervalRow}

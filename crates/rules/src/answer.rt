@@ -1,11 +1,11 @@
-// The answers of reading a personality, of a section lookup and of a step call.
+// The answers of reading a personality, of a section lookup and of a step call. A call that is refused answers `Err(Refusal)`.
 
-// The outcome of reading a personality.
+// A refusal: a number of the paper's table of checks, and its place as a byte offset. The number is no enum: the papers number their checks,
+// and every definition and theorem on a refusal takes that number.
 #[derive(Clone, Copy)]
-pub enum Verdict {
-    Accepted,
-    // A number of the paper's table of checks, and its place as a byte offset.
-    Refused { number: u8, place: usize },
+pub struct Refusal {
+    pub number: u8,
+    pub place: usize,
 }
 
 // The number and place of a verdict, 0 at 0 if it is acceptance.
@@ -13,12 +13,4 @@ pub enum Verdict {
 pub struct Report {
     pub number: u8,
     pub place: usize,
-}
-
-// The outcome of a step call.
-#[derive(Clone, Copy)]
-pub enum Outcome {
-    // The wait bound of the site, in steps.
-    Stepped { wait: u32 },
-    StepRefused { number: u8, place: usize },
 }

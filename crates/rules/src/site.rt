@@ -52,14 +52,14 @@ pub struct Size {
 }
 
 // A signal group: its phase set (bit 0 is A) and its mark (0 vehicle, 1 vehicle with late start, 2 pedestrian, 3 vehicle that stops
-// early).
+// early). The mark is no enum: `site_of` gives any bytes a site, also with a mark above 3, and the law `Sound` states the marks as numbers.
 #[derive(Clone, Copy)]
 pub struct Group {
     pub phases: u8,
     pub mark: u8,
 }
 
-// A detector: its phase (0 is A) and its mode.
+// A detector: its phase (0 is A) and its mode. The mode is no enum, as the mark of a group is none.
 #[derive(Clone, Copy)]
 pub struct Detector {
     pub phase: u8,

@@ -57,21 +57,14 @@ pub struct StageRow {
     pub second: bool,
 }
 
-// A phase or none.
-#[derive(Clone, Copy)]
-pub enum Held {
-    Nothing,
-    Phase { phase: u8 },
-}
-
 // The phase, its interval, the age of the interval, came-from (`previous`) and the target.
 #[derive(Clone, Copy)]
 pub struct Position {
     pub phase: u8,
     pub interval: Interval,
     pub age: u16,
-    pub previous: Held,
-    pub target: Held,
+    pub previous: Option<u8>,
+    pub target: Option<u8>,
 }
 
 // The gap count and the maximum count.
