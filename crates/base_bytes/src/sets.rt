@@ -8,7 +8,7 @@ pub fn with(set: u8, k: u8) -> u8
     requires { k < 8 }
     ensures { result ≡ set_of (λ i. bit i set || eqb i k) }
 {
-    set | (1u8 << k)
+    set | (1 << k)
 }
 
 // The set without k.
@@ -16,14 +16,14 @@ pub fn without(set: u8, k: u8) -> u8
     requires { k < 8 }
     ensures { result ≡ set_of (λ i. bit i set && not (eqb i k)) }
 {
-    set & (255 - (1u8 << k))
+    set & !(1 << k)
 }
 
 // The members that are not in the other set.
 pub fn except(set: u8, other: u8) -> u8
     ensures { result ≡ set_of (λ i. bit i set && not (bit i other)) }
 {
-    set & (255 - other)
+    set & !other
 }
 
 // Whether every member is below the count.
@@ -31,5 +31,5 @@ pub fn all_below(set: u8, count: u8) -> bool
     requires { count ≤ 8 }
     ensures { result ≡ all_of (λ i. not (bit i set) || ltb i count) 8 }
 {
-    (set as u16) >> count == 0
+    u16::from(set) >> count == 0
 }

@@ -40,7 +40,8 @@ const TABLE: [u32; 256] = [
     0xB3667A2E, 0xC4614AB8, 0x5D681B02, 0x2A6F2B94, 0xB40BBE37, 0xC30C8EA1, 0x5A05DF1B, 0x2D02EF8D,
 ];
 
-// The table.
+// The table. The checker computes the list that the rule gives, and compares.
+#[tactic(auto, unfolding(crate::specs::Crc::entries, crate::specs::Crc::shifted_by, crate::specs::Crc::shifted, laws::specs::Folds::list_of, laws::specs::Bytes::bit))]
 fn table() -> [u32; 256]
     ensures { result ≡ entries }
 {
@@ -54,11 +55,9 @@ pub fn crc(bytes: &[u8]) -> u32
 {
     let table = table();
     let mut register: u32 = 0xFFFFFFFF;
-    let mut i: usize = 0;
-    while i < bytes.len() {
-        let lowest = (register % 256) as u8 ^ bytes[i];
-        register = table[lowest as usize] ^ (register / 256);
-        i += 1;
+    for byte in bytes {
+        let lowest = (register % 256) as u8 ^ byte;
+        register = table[usize::from(lowest)] ^ (register / 256);
     }
     register ^ 0xFFFFFFFF
 }

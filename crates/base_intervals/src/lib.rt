@@ -1,22 +1,23 @@
-// A table row for each interval and each stage, tests that read the row, and tests of a phase-or-none value.
+// A table row for each interval and each stage, and tests that read the row.
 #![tactic(auto)]
 
 ghost use Rattle.std.specs.Prelude.{◌<◌, ◌≡◌, ltb, length, get_or};
 ghost use Rattle.rules.specs.declared.state.Interval.TheVariants.{StartRed};
 ghost use Rattle.rules.specs.declared.state.Stage.TheVariants.{Idle};
-ghost use Rattle.rules.specs.IntervalTable.{interval_row, intervals, is_running, is_minimum_green, is_green, is_early, is_leaving, is_before_start, is_start_red, stage_row, stages, is_idle, is_walk, is_walk_or_first, is_second, is_held, phase_held};
+ghost use Rattle.rules.specs.IntervalTable.{interval_row, intervals, is_running, is_minimum_green, is_green, is_early, is_leaving, is_before_start, is_start_red, stage_row, stages, is_idle, is_walk, is_walk_or_first, is_second};
 
-use rules::state::{Held, Interval, IntervalRow, Stage, StageRow};
+use rules::state::{Interval, IntervalRow, Stage, StageRow};
 
 // ---- Intervals ----
 
+#[tactic(auto, unfolding(rules::specs::IntervalTable::interval_row))]
 pub fn interval_row(interval: Interval) -> IntervalRow
     ensures { result ≡ interval_row interval }
 {
     match interval {
         Interval::StartRed => IntervalRow {
             code: 0,
-            letter: 83,
+            letter: b'S',
             start: true,
             minimum: false,
             running: false,
@@ -27,7 +28,7 @@ pub fn interval_row(interval: Interval) -> IntervalRow
         },
         Interval::LateStart => IntervalRow {
             code: 1,
-            letter: 76,
+            letter: b'L',
             start: false,
             minimum: false,
             running: false,
@@ -38,7 +39,7 @@ pub fn interval_row(interval: Interval) -> IntervalRow
         },
         Interval::MinimumGreen => IntervalRow {
             code: 2,
-            letter: 77,
+            letter: b'M',
             start: false,
             minimum: true,
             running: false,
@@ -49,7 +50,7 @@ pub fn interval_row(interval: Interval) -> IntervalRow
         },
         Interval::Running => IntervalRow {
             code: 3,
-            letter: 71,
+            letter: b'G',
             start: false,
             minimum: false,
             running: true,
@@ -60,7 +61,7 @@ pub fn interval_row(interval: Interval) -> IntervalRow
         },
         Interval::EarlyCutOff => IntervalRow {
             code: 4,
-            letter: 69,
+            letter: b'E',
             start: false,
             minimum: false,
             running: false,
@@ -71,7 +72,7 @@ pub fn interval_row(interval: Interval) -> IntervalRow
         },
         Interval::Yellow => IntervalRow {
             code: 5,
-            letter: 89,
+            letter: b'Y',
             start: false,
             minimum: false,
             running: false,
@@ -82,7 +83,7 @@ pub fn interval_row(interval: Interval) -> IntervalRow
         },
         Interval::AllRed => IntervalRow {
             code: 6,
-            letter: 82,
+            letter: b'R',
             start: false,
             minimum: false,
             running: false,
@@ -161,6 +162,7 @@ pub fn is_before_start(interval: Interval) -> bool
 
 // ---- Stages ----
 
+#[tactic(auto, unfolding(rules::specs::IntervalTable::stage_row))]
 pub fn stage_row(stage: Stage) -> StageRow
     ensures { result ≡ stage_row stage }
 {
@@ -208,8 +210,7 @@ pub fn stage_of(code: u8) -> Stage
     requires { code < length stages }
     ensures { result ≡ get_or stages code Idle }
 {
-    let known = code % 4;
-    match known {
+    match code % 4 {
         1 => Stage::Walk,
         2 => Stage::ClearanceOne,
         3 => Stage::ClearanceTwo,
@@ -240,25 +241,4 @@ pub fn is_second(stage: Stage) -> bool
     ensures { result ≡ is_second stage }
 {
     stage_row(stage).second
-}
-
-// ---- A phase or none ----
-
-pub fn is_held(h: Held) -> bool
-    ensures { result ≡ is_held h }
-{
-    match h {
-        Held::Nothing => false,
-        Held::Phase { phase: _ } => true,
-    }
-}
-
-// The phase; 0 (A) if there is none.
-pub fn phase_held(h: Held) -> u8
-    ensures { result ≡ phase_held h }
-{
-    match h {
-        Held::Nothing => 0,
-        Held::Phase { phase } => phase,
-    }
 }

@@ -45,6 +45,7 @@ const TWO: [Range; 11] = [
 ];
 
 // The table of an edition. It is that of the rules, entry by entry.
+#[tactic(auto, unfolding(rules::specs::Limits::limits))]
 pub fn limits(edition: Edition) -> [Range; 11]
     ensures { result ≡ limits edition }
 {
@@ -55,13 +56,13 @@ pub fn limits(edition: Edition) -> [Range; 11]
 }
 
 // Whether a table allows the value for the setting. A setting outside the table allows only 0.
+#[tactic(auto, unfolding(rules::specs::Limits::within, rules::specs::Limits::limit_of))]
 pub fn within(table: [Range; 11], setting: usize, value: u16) -> bool
     ensures { result ≡ within table setting value }
 {
-    if setting < table.len() {
-        let range = table[setting];
-        (range.low <= value) & (value <= range.high)
-    } else {
-        value == 0
-    }
+    let range = table
+        .get(setting)
+        .copied()
+        .unwrap_or(Range { low: 0, high: 0 });
+    range.low <= value && value <= range.high
 }
