@@ -67,9 +67,9 @@ module _ (b : List ℕ) where
               ∙ rw (add-one d, ← read, eq-eqb (mode % 4) 0 none, and-false-right (eqb (detector_phase b d) p) refl, or-false (any_of (calls_phase b p) d));
         }
 
-  all-called : {set d : ℕ} → Called set d → d ≤ detector_count b → set + 1 ≡ 2 ^ phase_count b → phase_without_caller b ≡ false
+  all-passed : {set d : ℕ} → Called set d → d ≤ detector_count b → set + 1 ≡ 2 ^ phase_count b → phase_without_caller b ≡ false
   unfolding phase_without_caller
-  all-called {set} {d} called few full =
+  all-passed {set} {d} called few full =
       any_none _ (phase_count b)
       (λ p l.
       ap not
@@ -93,23 +93,22 @@ module _ (b : List ℕ) where
       (decided (phase_without_caller b))
 
   -- the set of all phases is one less than 2 ^ P
-  pub called-decided :
-      {set d : ℕ} →
-      phase_count b ≤ 7 →
-      Called set d →
-      d ≤ detector_count b →
-      (eqb set (1 * 2 ^ phase_count b % 2 ^ 8 - 1) ≡ false → d ≡ detector_count b) →
-      eqb set (1 * 2 ^ phase_count b % 2 ^ 8 - 1) ≡ not (phase_without_caller b)
-  called-decided {set} few called within whole =
-      let power = shifted 8 (phase_count b) (omega arith) in
-      let some = pow_pos (phase_count b) in
-      ⊎_elim
-      (λ (e : eqb set (1 * 2 ^ phase_count b % 2 ^ 8 - 1) ≡ true).
-      e ∙ sym (ap not (all-called called within (omega (arith, eqb-true set (1 * 2 ^ phase_count b % 2 ^ 8 - 1) e, power, some)))))
-      (λ (e : eqb set (1 * 2 ^ phase_count b % 2 ^ 8 - 1) ≡ false).
-      e
-      ∙ sym
-      (ap not
-      (one-uncalled called (whole e)
-      (λ full. eqb-false set (1 * 2 ^ phase_count b % 2 ^ 8 - 1) e (omega (arith, full, power, some))))))
-      (decided (eqb set (1 * 2 ^ phase_count b % 2 ^ 8 - 1)))
+  module _ {set d : ℕ} (few : phase_count b ≤ 7) (called : Called set d) where
+    pub all-called : d ≤ detector_count b → set ≡ 1 * 2 ^ phase_count b % 2 ^ 8 - 1 → true ≡ not (phase_without_caller b)
+    all-called within full =
+        sym (ap not (all-passed called within (omega (arith, full, shifted 8 (phase_count b) (omega arith), pow_pos (phase_count b)))))
+
+    pub called-decided : d ≡ detector_count b → eqb set (1 * 2 ^ phase_count b % 2 ^ 8 - 1) ≡ not (phase_without_caller b)
+    called-decided whole =
+        ⊎_elim
+        (λ (e : eqb set (1 * 2 ^ phase_count b % 2 ^ 8 - 1) ≡ true).
+        e ∙ all-called (omega arith) (eqb-true set (1 * 2 ^ phase_count b % 2 ^ 8 - 1) e))
+        (λ (e : eqb set (1 * 2 ^ phase_count b % 2 ^ 8 - 1) ≡ false).
+        e
+        ∙ sym
+        (ap not
+        (one-uncalled called whole
+        (λ full.
+        eqb-false set (1 * 2 ^ phase_count b % 2 ^ 8 - 1) e
+        (omega (arith, full, shifted 8 (phase_count b) (omega arith), pow_pos (phase_count b)))))))
+        (decided (eqb set (1 * 2 ^ phase_count b % 2 ^ 8 - 1)))

@@ -2,32 +2,33 @@
 #![tactic(auto)]
 
 ghost use Rattle.std.specs.Prelude.{not, ◌≡◌};
-ghost use Rattle.rules.specs.declared.answer.Verdict.TheVariants.{Accepted};
-ghost use Rattle.rules.specs.Personality.{group_count, site_section, detectors_section, phase_without_caller};
+ghost use Rattle.rules.specs.Verdicts.{Accepted};
+ghost use Rattle.rules.specs.Personality.{group_count, detectors_section, phase_without_caller};
 ghost use Rattle.read_groups.specs.GroupsRead.{CrossedPhases};
-ghost use Rattle.read_layout.specs.LayoutOf.{LayoutOf};
 
-use read_layout::Layout;
+use read_layout::Counted;
 use read_sections::records::pair_at;
 
 // Whether each phase has a caller: a pedestrian group (`crossed` is the set of their phases), or a detector with a calling mode. The loop
-// ends as soon as every phase has a caller. Kinds 1 and 5 are accepted before, so every record is in the slice.
-pub fn each_called(s: &[u8], layout: Layout, crossed: u8) -> bool
-    requires { LayoutOf s.now layout × (site_section s.now ≡ Accepted) × (detectors_section s.now ≡ Accepted)
-        × CrossedPhases s.now crossed (group_count s.now) }
-    ensures { result ≡ not (phase_without_caller s.now) }
+// ends as soon as every phase has a caller. Kind 5 is accepted before, so every record is in the slice.
+#[tactic(auto, unfolding(rules::specs::Personality::pedestrians_head, rules::specs::Personality::body_at))]
+pub fn each_called(c: &Counted, crossed: u8) -> bool
+    requires { (detectors_section c.now ≡ Accepted) × CrossedPhases c.now crossed (group_count c.now) }
+    ensures { result ≡ not (phase_without_caller c.now) }
 {
-    let head = layout.detectors;
-    let count = (layout.pedestrians - head - 4) / 2;
-    let all = (1u8 << layout.phasecount) - 1;
+    let s = &c.sections;
+    let head = s.layout.detectors;
+    let count = (s.layout.pedestrians - head - 4) / 2;
+    let all = (1u8 << s.layout.phasecount) - 1;
     let mut called = crossed;
-    let mut d: usize = 0;
-    while (called != all) & (d < count) {
-        let detector = pair_at(s, head, d);
-        if detector.second % 4 != 0 {
-            called = called | (1u8 << detector.first);
+    for d in 0..count {
+        if called == all {
+            return true;
         }
-        d += 1;
+        let detector = pair_at(s.bytes, head, d);
+        if detector.second % 4 != 0 {
+            called |= 1u8 << detector.first;
+        }
     }
     called == all
 }

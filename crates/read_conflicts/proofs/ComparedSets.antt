@@ -4,7 +4,7 @@
 use Prim.Native.Nat.{ℕ, ◌+◌, ◌*◌, ◌/◌, ◌%◌, ◌^◌, ◌≤◌, ◌<◌}
 use mathlib.Core.Bool.{Bool, true, false, not, ◌&&◌, ◌||◌, or-false}
 use mathlib.Core.List.{List}
-use mathlib.Core.Logic.{⊎_elim}
+use mathlib.Core.Logic.{⊎_elim, ◌≢◌}
 use mathlib.Core.Path.{◌≡◌, refl, sym, ap, ◌∙◌}
 use native.Mathlib.Nat.{lt_of_le_of_lt}
 use native.Mathlib.Numerals.{add-one}
@@ -12,18 +12,18 @@ use native.Mathlib.Omega.{arith}
 use lib.Bits.{bit_and, bit_or, and_le_l}
 use lib.Dec.{leb, eqb}
 use lib.ListN.{get_or}
-use borrow.Author.Tests.{leb-false, eqb-false, eq-eqb, ne_eqb, not-false, not-true}
+use borrow.Author.Tests.{leb-false, eq-eqb, ne_eqb, not-false, not-true}
 use Rattle.laws.specs.Bytes.{bit}
 use Rattle.laws.specs.Folds.{any_of}
-use Rattle.laws.proofs.Booleans.{decided, never_both, and_left, and_right, and-false-left, and-false-right, and-false-cases, or-false-left, or-false-right}
+use Rattle.laws.proofs.Booleans.{decided, never_both, and_left, and_right, and-false-left, and-false-right, or-false-left, or-false-right}
 use Rattle.laws.proofs.Folds.{any_found, any_false, any_same, any-past}
 use Rattle.laws.proofs.Bits.{bit-blank, bit-above, same_bits}
 use Rattle.laws.proofs.JoinedBits.{bit-and, bit-or, in-common}
 use Rattle.rules.specs.Personality.{phase_count, group_count, group_set, conflict_set, bad_conflict, share_phase, conflict_in_phase}
-use Rattle.rules.specs.declared.answer.Verdict.TheVariants.{Accepted}
+use Rattle.rules.specs.Verdicts.{Accepted}
 use Rattle.rules.proofs.Verdicts.{refuse-passed, first-each}
-use Rattle.read_conflicts_turned.specs.Turned.{turned_bit, Turned}
-use Rattle.read_conflicts.specs.Refused.{Named, Members, Compared, renewed_at, SetsBelow, refused_record, first_refused}
+use Rattle.read_conflicts_turned.specs.Turned.{names, is_in, Turned}
+use Rattle.read_conflicts.specs.Refused.{Named, SetsBelow, first_bad}
 
 -- ── Number 9 ──
 
@@ -71,11 +71,23 @@ named-tested {b} {g} {named} known =
     ∙ any_same _ _ (group_count b) (λ j l. ap (λ (t : Bool). bit j set && not t) (known.told j l)))
 
 -- once 9 has refused no record, no set has a bit at or above N
-pub sets_below : (b : List ℕ) (number : ℕ) → (eqb number 9 ≡ false → first_refused b 9 ≡ Accepted) → SetsBelow b number
-unfolding first_refused refused_record bad_conflict
-sets_below b number passed other g l =
-    let good : bad_conflict b g ≡ false = refuse-passed (bad_conflict b g) 9 _ (first-each _ (group_count b) g (passed other) l) in
+pub sets_below : (b : List ℕ) → first_bad b ≡ Accepted → SetsBelow b
+unfolding first_bad bad_conflict
+sets_below b passed g l =
+    let good : bad_conflict b g ≡ false = refuse-passed (bad_conflict b g) 9 _ (first-each _ (group_count b) g passed l) in
     leb-false _ _ (or-false-right (bit g (conflict_set b g)) _ (or-false-left _ _ good))
+
+-- the groups that name each of eight groups, for one of them
+pub turned-named : {b : List ℕ} (g : ℕ) (rows : List ℕ) → Turned b (names b (g / 8)) rows → Named b g (get_or rows (g % 8) 0)
+unfolding names
+turned-named g rows turned =
+    let whole : 8 * (g / 8) + g % 8 ≡ g = omega arith in
+    record { told = λ j l. turned.told (g % 8) j (omega arith) l ∙ rw whole }
+
+-- they serve the next group, unless it begins eight others
+pub turned-next : {b : List ℕ} {rows : List ℕ} (g : ℕ) → Turned b (names b (g / 8)) rows → (g + 1) % 8 ≢ 0 → Turned b (names b ((g + 1) / 8)) rows
+turned-next g turned inside =
+    let same : (g + 1) / 8 ≡ g / 8 = omega (arith, inside) in rw same turned
 
 -- ── Number 10 ──
 
@@ -105,10 +117,10 @@ pub members-tested :
     conflict_set b g < 2 ^ group_count b →
     conflict_set b g < 2 ^ 32 →
     shared < 2 ^ 32 →
-    Members b sets →
+    Turned b (is_in b) sets →
     ((j : ℕ) → bit j shared ≡ any_of (λ p. bit p (group_set b g) && bit j (get_or sets p 0)) (phase_count b)) →
     not (eqb (bit_and (conflict_set b g) shared) 0) ≡ conflict_in_phase b g
-unfolding conflict_in_phase share_phase
+unfolding conflict_in_phase share_phase is_in
 members-tested {b} {sets} g shared few phases below h k known found =
     let set = conflict_set b g in
     in-common 32 set shared h k
@@ -117,28 +129,3 @@ members-tested {b} {sets} g shared few phases below h k known found =
     (λ j l.
     ap (λ (t : Bool). bit j set && t)
     (found j ∙ any_same _ _ (phase_count b) (λ p m. ap (λ (t : Bool). bit p (group_set b g) && t) (known.told p j (omega (arith, m)) l))))
-
--- ── The sets that are turned ──
-
-module _ {b : List ℕ} {number : ℕ} where
-  pub turned-named : (g : ℕ) (rows : List ℕ) → eqb number 9 ≡ true → Turned b number (g / 8) rows → Named b g (get_or rows (g % 8) 0)
-  unfolding turned_bit
-  turned-named g rows nine turned =
-      let whole : 8 * (g / 8) + g % 8 ≡ g = omega arith in
-      record { told = λ j l. (turned.told (g % 8) (omega arith)).told j l ∙ rw (nine, whole) }
-
-  pub turned-members : {a : ℕ} {rows : List ℕ} → eqb number 9 ≡ false → Turned b number a rows → Members b rows
-  unfolding turned_bit
-  turned-members other turned = record { told = λ p j h l. (turned.told p h).told j l ∙ rw other }
-
-  -- the sets for group g serve the next one, unless they are made anew for it
-  pub compared-next : {rows : List ℕ} (g : ℕ) → Compared b number g rows → renewed_at number (g + 1) ≡ false → Compared b number (g + 1) rows
-  unfolding turned_bit
-  compared-next {rows} g turned kept =
-      ⊎_elim
-      (λ (other : eqb number 9 ≡ false).
-      record { told = λ r h. record { told = λ j l. (turned.told r h).told j l ∙ rw other } })
-      (λ (inside : eqb ((g + 1) % 8) 0 ≡ false).
-      let apart = eqb-false ((g + 1) % 8) 0 inside in
-      let same : (g + 1) / 8 ≡ g / 8 = omega (arith, apart) in rw same turned)
-      (and-false-cases (eqb number 9) (eqb ((g + 1) % 8) 0) (or-false-right (eqb (g + 1) 0) _ kept))

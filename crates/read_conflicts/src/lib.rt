@@ -3,29 +3,36 @@
 #![tactic(auto)]
 
 ghost use Rattle.std.specs.Prelude.{◌≡◌};
-ghost use Rattle.rules.specs.declared.answer.Verdict.TheVariants.{Accepted};
-ghost use Rattle.rules.specs.Personality.{site_section, groups_section, conflicts_section};
-ghost use Rattle.read_layout.specs.LayoutOf.{LayoutOf};
+ghost use Rattle.rules.specs.Verdicts.{Accepted};
+ghost use Rattle.rules.specs.Personality.{groups_section, conflicts_section};
 
 use crate::records::searched;
+use read_conflicts_matrix::Matrix;
 use read_conflicts_quick::surely_right;
-use read_layout::Layout;
+use read_layout::Counted;
 use read_sections::sized_section;
-use rules::answer::Verdict;
+use rules::answer::Refusal;
 
 mod records;
 
-// The checks of kind 4. Kinds 1 and 3 are accepted before.
-pub fn conflicts_section(s: &[u8], layout: Layout) -> Verdict
-    requires { LayoutOf s.now layout × (site_section s.now ≡ Accepted) × (groups_section s.now ≡ Accepted) }
-    ensures { result ≡ conflicts_section s.now }
+// The checks of kind 4. Kind 3 is accepted before, so that after the check of the head all records of both kinds are in the bytes.
+pub fn conflicts_section(c: &Counted) -> Result<(), Refusal>
+    requires { groups_section c.now ≡ Accepted }
+    ensures { result ≡ conflicts_section c.now }
 {
-    let head = sized_section(s, layout.conflicts, 4, (layout.groupcount as usize) * 4);
-    if let Verdict::Refused { .. } = head {
-        return head;
+    let s = &c.sections;
+    sized_section(
+        s.bytes,
+        s.layout.conflicts,
+        4,
+        usize::from(s.layout.groupcount) * 4,
+    )?;
+    let m = Matrix {
+        bytes: s.bytes,
+        layout: &s.layout,
+    };
+    if surely_right(&m) {
+        return Ok(());
     }
-    if surely_right(s, layout) {
-        return Verdict::Accepted;
-    }
-    searched(s, layout)
+    searched(&m)
 }

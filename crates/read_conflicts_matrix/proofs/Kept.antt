@@ -3,9 +3,8 @@ use Prim.Native.Nat.{ℕ, ◌+◌, ◌<◌}
 use mathlib.Core.List.{List}
 use mathlib.Core.Logic.{⊎_elim}
 use mathlib.Core.Path.{◌≡◌, sym, subst, ◌∙◌}
-use native.Mathlib.Nat.{not-suc-le-zero}
 use native.Mathlib.Omega.{arith}
-use lib.ListN.{length, get_or, set, replicate, length-replicate, length-set}
+use lib.ListN.{length, get_or, set, length-set}
 use lib.Seq.{get_or-set_same, get_or-set_other}
 use Rattle.laws.proofs.Indices.{last-or-below}
 
@@ -15,9 +14,6 @@ pub record Kept (asked : ℕ → ℕ → Type 0) (size : ℕ) (entries : List �
   pub told : (i : ℕ) → i < n → asked i (get_or entries i 0)
 
 module _ {asked : ℕ → ℕ → Type 0} {size : ℕ} where
-  pub kept-none : Kept asked size (replicate size 0) 0
-  kept-none = record { room = length-replicate size 0; told = λ i l. absurd (not-suc-le-zero l) }
-
   pub kept_more :
       {entries : List ℕ} {n x : ℕ} → Kept asked size entries n → n < size → asked n x → Kept asked size (set entries n x) (n + 1)
   kept_more {entries} {n} {x} kept h here =

@@ -1,15 +1,24 @@
 -- What the tiles hold: the rows of a band are the bytes of its records, and so the conflict sets or the phase sets of its groups.
-use Prim.Native.Nat.{ℕ, ◌+◌, ◌*◌, ◌<◌}
+use Prim.Native.Nat.{ℕ, ◌+◌, ◌*◌, ◌≤◌, ◌<◌}
 use mathlib.Core.List.{List}
 use mathlib.Core.Path.{sym, ap, ◌∙◌}
 use native.Mathlib.Nat.{add-mul}
 use native.Mathlib.Omega.{arith}
 use Rattle.laws.specs.Bytes.{byte_at, bit}
-use Rattle.rules.specs.Personality.{body_at, record_at, conflicts_head, group_set, conflict_set}
+use Rattle.rules.specs.Personality.{body_at, record_at, group_count, groups_head, conflicts_head, group_set, conflict_set}
 use Rattle.laws.proofs.Bytes.{four-bit}
-use Rattle.read_layout.specs.declared.Layout.{Layout}
-use Rattle.read_layout.specs.LayoutOf.{LayoutOf}
+use Rattle.proof_acceptance.proofs.Sections.{record-within}
 use Rattle.read_conflicts_matrix.specs.Matrix.{ByteRows, BandRows, ConflictRows, SetRows}
+
+-- row r of a band is in the bytes
+pub row-held :
+    {n : ℕ} (head width count a k r : ℕ) →
+    k < width →
+    8 * a + r < count →
+    body_at head + count * width ≤ n →
+    head + 4 + 8 * a * width + k + r * width < n
+unfolding record_at body_at
+row-held head width count a k r h l room = omega (arith, record-within head width count (8 * a + r) l, add-mul (8 * a) r width)
 
 -- the rows of a band are bytes that stand one width apart
 pub band-rows :
@@ -24,28 +33,17 @@ band-rows {b} head width count a k rows there bytes =
           bytes.told r c (there r h m) l ∙ ap (λ (j : ℕ). bit c (byte_at b j)) (omega (arith, add-mul (8 * a) r width));
     }
 
-module _ {b : List ℕ} {w : Layout} (laid : LayoutOf b w) where
+module _ {b : List ℕ} (a : ℕ) {t : ℕ} where
   pub conflict-rows :
-      (a k : ℕ) {t : ℕ} →
-      ((i : ℕ) → byte_at b i < 256) →
-      k < 4 →
-      BandRows b w.conflicts 4 w.groupcount a k t →
-      ConflictRows b a k t
+      (k : ℕ) → ((i : ℕ) → byte_at b i < 256) → k < 4 → BandRows b (conflicts_head b) 4 (group_count b) a k t → ConflictRows b a k t
   unfolding conflict_set
-  conflict-rows a k small below rows =
+  conflict-rows k small below rows =
       record {
         told = λ r c h l m.
-            rows.told r c h l (omega (arith, laid.groupcount, m))
-            ∙ ap (λ (head : ℕ). bit c (byte_at b (record_at head 4 (8 * a + r) + k))) laid.conflicts
-            ∙ sym (four-bit b small (record_at (conflicts_head b) 4 (8 * a + r)) k c below l);
+            rows.told r c h l m ∙ sym (four-bit b small (record_at (conflicts_head b) 4 (8 * a + r)) k c below l);
       }
 
-  pub set-rows : (a : ℕ) {t : ℕ} → BandRows b w.groups 2 w.groupcount a 0 t → SetRows b a t
+  pub set-rows : BandRows b (groups_head b) 2 (group_count b) a 0 t → SetRows b a t
   unfolding group_set
-  set-rows a rows =
-      record {
-        told = λ r c h l m.
-            rows.told r c h l (omega (arith, laid.groupcount, m))
-            ∙ ap (λ (head : ℕ). bit c (byte_at b (record_at head 2 (8 * a + r) + 0))) laid.groups
-            ∙ ap (λ (j : ℕ). bit c (byte_at b j)) (omega arith);
-      }
+  set-rows rows =
+      record { told = λ r c h l m. rows.told r c h l m ∙ ap (λ (j : ℕ). bit c (byte_at b j)) (omega arith) }

@@ -8,13 +8,12 @@ use mathlib.Core.Path.{◌≡◌, sym, ap, subst, ◌∙◌}
 use native.Mathlib.Nat.{mul_assoc, mul_comm, add-mul, mul-le-mul_right, not-suc-le-zero}
 use native.Mathlib.Omega.{arith}
 use lib.Bits.{bit_and, bit_or, and_block, and_le_r, and_mask}
-use lib.Pow.{pow-add, pow_mono, pow_pos, shr-shr, split}
+use lib.Pow.{pow-add, pow_mono, shr-shr, split}
 use Rattle.laws.specs.Bytes.{byte_at, bit}
 use Rattle.laws.proofs.Booleans.{or_left, or_right}
 use Rattle.laws.proofs.Indices.{last-or-below}
 use Rattle.laws.proofs.Bits.{bit-odd, bit-lower, bit-down}
 use Rattle.laws.proofs.JoinedBits.{bit-or, first-row, next_row}
-use Rattle.read_conflicts_matrix.specs.Matrix.{ByteRows}
 
 -- ── Rows put one under the other, the last first ──
 
@@ -25,9 +24,6 @@ pub record Stacked (b : List ℕ) (at stride rows r t : ℕ) : Type 0 where
   pub told : (i c : ℕ) → r + i < rows → c < 8 → bit (8 * i + c) t ≡ bit c (byte_at b (at + (r + i) * stride))
 
 module _ {b : List ℕ} {at stride rows : ℕ} where
-  pub stacked-none : Stacked b at stride rows rows 0
-  stacked-none = record { within = omega arith; room = pow_pos (8 * (rows - rows)); told = λ i c h l. absurd (omega arith) }
-
   pub stacked-more :
       {r t x : ℕ} →
       Stacked b at stride rows r t →
@@ -49,12 +45,6 @@ module _ {b : List ℕ} {at stride rows : ℕ} where
       row (suc i) c k l =
           next_row t x i c small ∙ stacked.told i c (omega arith) l
           ∙ ap (λ (j : ℕ). bit c (byte_at b (at + j * stride))) (omega arith)
-
-  pub stacked-whole : {r t : ℕ} → Stacked b at stride rows r t → r ≤ 0 → ByteRows b at stride rows t
-  stacked-whole {r} stacked h =
-      record {
-        told = λ i c l m. stacked.told i c (omega arith) m ∙ ap (λ (j : ℕ). bit c (byte_at b (at + j * stride))) (omega arith);
-      }
 
   -- one more row has room in 64 bits
   pub stacked-room : {r t : ℕ} → Stacked b at stride rows r t → rows ≤ 8 → 0 < r → t < 2 ^ 56

@@ -4,7 +4,7 @@ use Prim.Native.Nat.{ℕ, ◌+◌, ◌*◌, ◌/◌, ◌%◌, ◌^◌, ◌≤◌
 use mathlib.Core.Bool.{Bool, true, false, not, ◌&&◌}
 use mathlib.Core.List.{List}
 use mathlib.Core.Logic.{⊎_elim}
-use mathlib.Core.Path.{◌≡◌, refl, sym, ap, subst, ◌∙◌}
+use mathlib.Core.Path.{◌≡◌, refl, sym, ap, subst}
 use native.Mathlib.Nat.{zero-add}
 use native.Mathlib.Omega.{arith}
 use lib.Bits.{bit_and}
@@ -14,13 +14,16 @@ use Rattle.laws.specs.Bytes.{bit}
 use Rattle.rules.specs.Personality.{phase_count, group_count, group_set, conflict_set}
 use Rattle.rules.specs.Personality.{bad_conflict, share_phase, conflict_in_phase}
 use Rattle.laws.specs.Folds.{any_of, all_of}
-use Rattle.laws.proofs.Booleans.{decided, never_both, not-true-false, and_left, and_right, and-false-left, and-false-right, or-false-both}
-use Rattle.laws.proofs.Indices.{below-or-past}
+use Rattle.laws.proofs.Booleans.{decided, never_both, not-true-false, and-false-left, and-false-right, or-false-both}
+use Rattle.laws.proofs.Indices.{below-or-past, same-or-apart}
+use Rattle.std.specs.Bool.{⊤, MatchBool}
+use Rattle.std.specs.List.{AllWithin, HoldsAt, range_with_len}
+use Rattle.std.proofs.Common.{length, get_or, ◌-◌, ◌≢◌, ◌∙◌}
+use Rattle.std.proofs.lemmas.List.FromFn.{length-range_with_len, get_or-range_with_len}
 use Rattle.laws.proofs.Folds.{any_none, any_false}
 use Rattle.laws.proofs.Tables.{table-holds}
 use Rattle.laws.proofs.JoinedBits.{clear-bit}
-use Rattle.read_layout.specs.declared.Layout.{Layout}
-use Rattle.read_conflicts_matrix.specs.Matrix.{MatrixFits, ConflictRows, SetRows}
+use Rattle.read_conflicts_matrix.specs.Matrix.{ConflictRows, SetRows}
 use Rattle.read_conflicts_quick.specs.Quick.{MemberRows, Matched, PairRight, BlockRight, BandRight, AllRight}
 
 -- ── A pair of groups ──
@@ -45,11 +48,11 @@ pub tile-matched :
     bit (8 * r + p) sets ≡ true →
     bit (8 * p + c) members ≡ true →
     bit (8 * r + c) wrong ≡ true) →
-    (eqb mirror back && eqb (bit_and t wrong) 0) ≡ true →
+    mirror ≡ back →
+    eqb (bit_and t wrong) 0 ≡ true →
     Matched t back given sets members phases
-tile-matched {t} {back} mirror wrong turned kept shared passed =
-    let same = eqb-true mirror back (and_left _ _ passed) in
-    let free = eqb-true (bit_and t wrong) 0 (and_right (eqb mirror back) _ passed) in
+tile-matched {t} {back} mirror wrong turned kept shared same none =
+    let free = eqb-true (bit_and t wrong) 0 none in
     record {
       mirrored = λ r c h l. ap (bit (8 * c + r)) (sym same) ∙ turned r c h l;
       clear = λ k e. clear-bit k t wrong free (kept k e);
@@ -66,16 +69,16 @@ diagonal-bit r c h e = subst (λ (j : ℕ). bit (8 * r + j) 9241421688590303745 
 
 -- all pairs of two bands
 pub block-sound :
-    {b : List ℕ} {w : Layout} {a k t back given sets members : ℕ} →
-    MatrixFits b w →
+    {b : List ℕ} {a k t back given sets members : ℕ} →
+    phase_count b ≤ 7 →
     ConflictRows b a k t →
     ConflictRows b k a back →
     SetRows b a sets →
     MemberRows b k members →
     ((r c : ℕ) → r < 8 → c < 8 → 8 * a + r ≡ 8 * k + c → bit (8 * r + c) given ≡ true) →
-    Matched t back given sets members w.phasecount →
+    Matched t back given sets members (phase_count b) →
     BlockRight b a k
-block-sound {b} {w} {a} {k} {t} {back} chart there home rows columns own matched r c h l m n =
+block-sound {b} {a} {k} {t} {back} few there home rows columns own matched r c h l m n =
     record {
       answered = sym (there.told r c h l m) ∙ sym (matched.mirrored r c h l) ∙ home.told c r l h n;
       other = λ e. sym (there.told r c h l m) ∙ matched.clear (8 * r + c) (own r c h l e);
@@ -83,9 +86,9 @@ block-sound {b} {w} {a} {k} {t} {back} chart there home rows columns own matched
           not-true-false (bit p (group_set b (8 * k + c)))
           (λ g.
           never_both (there.told r c h l m ∙ e)
-          (matched.apart r c p h l (omega (arith, chart.laid.phasecount, q))
-          (rows.told r p h (omega (arith, chart.laid.phasecount, chart.few_phases, q)) m ∙ f)
-          (columns.told p c (omega (arith, chart.laid.phasecount, chart.few_phases, q)) l n ∙ g)));
+          (matched.apart r c p h l q
+          (rows.told r p h (omega (arith, few, q)) m ∙ f)
+          (columns.told p c (omega (arith, few, q)) l n ∙ g)));
     }
 
 -- the other way round
@@ -100,17 +103,38 @@ pair-turned b g j sound =
 
 -- ── Bands ──
 
-pub band-first : (b : List ℕ) (k : ℕ) → BlockRight b k k → (i : ℕ) → k ≤ i → i < k + 1 → BlockRight b i k
-band-first b k own i h l = let e : k ≡ i = omega arith in subst (λ (a : ℕ). BlockRight b a k) e own
+-- what `all` found of each number of a range
+pub each_of_range :
+    (P : ℕ → Type 0) (a n : ℕ) {r : Bool} →
+    MatchBool r
+    (AllWithin P (range_with_len a n) 0 (length (range_with_len a n)))
+    ((k : ℕ) × (k < length (range_with_len a n)) × HoldsAt (λ _. ⊤) (range_with_len a n) k) →
+    r ≡ true →
+    (i : ℕ) →
+    a ≤ i →
+    i < a + n →
+    P i
+each_of_range P a n found passed i h l =
+    let inside : i - a < n = omega arith in
+    let here : get_or (range_with_len a n) (i - a) 0 ≡ i = get_or-range_with_len a n (i - a) 0 inside ∙ omega arith in
+    subst P here ((rw passed at found) (i - a) 0 (omega arith) (rw length-range_with_len inside))
 
--- no group is past the last band
+-- a band with itself and with those behind it, which reach to the last group
 pub band-whole :
-    (b : List ℕ) (k n : ℕ) → ((i : ℕ) → k ≤ i → i < n → BlockRight b i k) → group_count b ≤ 8 * n → BandRight b k
-band-whole b k n before all a h r c =
+    (b : List ℕ) (k n : ℕ) →
+    BlockRight b k k →
+    ((i : ℕ) → k + 1 ≤ i → i < n → BlockRight b i k) →
+    group_count b ≤ 8 * n →
+    BandRight b k
+band-whole b k n own behind all a h =
     ⊎_elim
-    (λ (l : a < n). before a h l r c)
-    (λ (l : n ≤ a) p q m. absurd (omega (arith, l, m, all)))
-    (below-or-past a n)
+    (λ (e : k ≡ a). subst (λ (i : ℕ). BlockRight b i k) e own)
+    (λ (m : k ≢ a).
+    ⊎_elim
+    (λ (l : a < n). behind a (omega (arith, h, m)) l)
+    (λ (l : n ≤ a) r c p q t. absurd (omega (arith, l, t, all)))
+    (below-or-past a n))
+    (same-or-apart k a)
 
 pub all_sound :
     (b : List ℕ) (n : ℕ) →

@@ -29,6 +29,7 @@ fn swapped(x: u64, low: u64, shift: u32) -> u64
 }
 
 // The tile mirrored at its diagonal: bit c of row r becomes bit r of row c.
+#[tactic(auto, unfolding(laws::specs::Bytes::bit, laws::specs::Folds::all_of, crate::specs::Swaps::upper, crate::specs::Swaps::source, crate::specs::Swaps::placed, crate::specs::Swaps::swaps))]
 pub fn mirrored(tile: u64) -> u64
     ensures { (r c : ℕ) → r < 8 → c < 8 → bit (8 * c + r) result ≡ bit (8 * r + c) tile }
 {

@@ -1,31 +1,30 @@
 -- The bits of turned tiles and rows. A mirrored tile has its columns as rows; row r of four tiles is a number with a byte of each; and group
 -- j is bit j % 8 of byte j / 8.
 use Prim.Native.Nat.{ℕ, zero, suc, ◌+◌, ◌*◌, ◌/◌, ◌%◌, ◌^◌, ◌≤◌, ◌<◌}
-use mathlib.Core.Bool.{true, false}
+use mathlib.Core.Bool.{Bool}
 use mathlib.Core.List.{List, [], ◌∷◌}
 use mathlib.Core.Path.{◌≡◌, refl, ap, subst, ◌∙◌}
 use native.Mathlib.Omega.{arith}
-use lib.Dec.{eqb}
 use lib.ListN.{get_or}
 use Rattle.laws.specs.Bytes.{byte_at, two_at, four_at, bit}
 use Rattle.laws.proofs.Bits.{bit-lower, bit-down}
 use Rattle.laws.proofs.Bytes.{four-bit}
 use Rattle.rules.specs.Personality.{group_count}
 use Rattle.read_conflicts_matrix.specs.Matrix.{ConflictRows, SetRows}
-use Rattle.read_conflicts_turned.specs.Turned.{turned_bit, TurnedTile, TurnedTiles, RowOf, TurnedRow}
+use Rattle.read_conflicts_turned.specs.Turned.{names, is_in, TurnedTile, RowOf, Rows, Turned}
 
 -- m is the tile t mirrored
 abbrev Mirrored : ℕ → ℕ → Type 0
 Mirrored t m = (r c : ℕ) → r < 8 → c < 8 → bit (8 * c + r) m ≡ bit (8 * r + c) t
 
-module _ {b : List ℕ} {number : ℕ} (a k : ℕ) {t m : ℕ} where
-  pub conflicts-turned : eqb number 9 ≡ true → ConflictRows b k a t → Mirrored t m → TurnedTile b number a k m
-  unfolding turned_bit
-  conflicts-turned nine rows mirror = record { told = λ r c h l n. mirror c r l h ∙ rows.told c r l h n ∙ rw nine }
+module _ {b : List ℕ} (k : ℕ) {t m : ℕ} where
+  pub conflicts-turned : (a : ℕ) → ConflictRows b k a t → Mirrored t m → TurnedTile b (names b a) k m
+  unfolding names
+  conflicts-turned a rows mirror = record { told = λ r c h l n. mirror c r l h ∙ rows.told c r l h n }
 
-  pub sets-turned : eqb number 9 ≡ false → SetRows b k t → Mirrored t m → TurnedTile b number a k m
-  unfolding turned_bit
-  sets-turned other rows mirror = record { told = λ r c h l n. mirror c r l h ∙ rows.told c r l h n ∙ rw other }
+  pub sets-turned : SetRows b k t → Mirrored t m → TurnedTile b (is_in b) k m
+  unfolding is_in
+  sets-turned rows mirror = record { told = λ r c h l n. mirror c r l h ∙ rows.told c r l h n }
 
 -- ── A row of four tiles ──
 
@@ -63,18 +62,17 @@ module _ (tiles : List ℕ) (r : ℕ) where
 
 -- ── The groups of a row ──
 
-pub row-turned :
-    {b : List ℕ} {number a r x : ℕ} (tiles : List ℕ) →
+pub rows-turned :
+    {b : List ℕ} {turned : ℕ → ℕ → Bool} {tiles rows : List ℕ} →
     group_count b ≤ 32 →
-    r < 8 →
-    TurnedTiles b number a tiles →
-    RowOf tiles r x →
-    TurnedRow b number a r x
-row-turned {b} {number} {a} {r} {x} tiles few h turned row =
+    ((k : ℕ) → 8 * k < group_count b → TurnedTile b turned k (get_or tiles k 0)) →
+    Rows tiles rows →
+    Turned b turned rows
+rows-turned {b} {turned} {tiles} {rows} few tile row =
     record {
-      told = λ j l.
+      told = λ r j h l.
           let whole : 8 * (j / 8) + j % 8 ≡ j = omega arith in
-          subst (λ (i : ℕ). bit i x ≡ turned_bit b number a r i) whole
-          (row.told (j / 8) (j % 8) (omega (arith, l)) (omega arith)
-          ∙ (turned.told (j / 8) (omega (arith, l))).told r (j % 8) h (omega arith) (omega (arith, l)));
+          subst (λ (i : ℕ). bit i (get_or rows r 0) ≡ turned r i) whole
+          ((row.told r h).told (j / 8) (j % 8) (omega (arith, l)) (omega arith)
+          ∙ (tile (j / 8) (omega (arith, l))).told r (j % 8) h (omega arith) (omega (arith, l)));
     }

@@ -3,38 +3,10 @@
 #![tactic(auto)]
 
 ghost use Rattle.std.specs.Prelude.{◌*◌, ◌/◌, ◌%◌, ◌<◌, ◌^◌, ◌≡◌};
-ghost use Rattle.read_conflicts_matrix.specs.Matrix.{MatrixFits};
-ghost use Rattle.read_conflicts_turned.specs.Turned.{TurnedTile, TurnedTiles, RowOf, Turned};
+ghost use Rattle.read_conflicts_turned.specs.Turned.{RowOf, Rows, Turned, names, is_in};
 
-use read_conflicts_matrix::{conflict_tile, set_tile};
+use read_conflicts_matrix::{Matrix, conflict_tile, set_tile};
 use read_conflicts_tiles::mirrored;
-use read_layout::Layout;
-
-// The groups of band k, turned: with 9 those that name the groups of band a, with 10 those in each phase.
-fn turned_tile(s: &[u8], layout: Layout, number: u8, a: usize, k: usize) -> u64
-    requires { MatrixFits s.now layout × (a < 4) × (8 * k < layout.groupcount) }
-    ensures { TurnedTile s.now number a k result }
-{
-    if number == 9 {
-        return mirrored(conflict_tile(s, layout, k, a));
-    }
-    mirrored(set_tile(s, layout, k))
-}
-
-// The groups of all bands, turned, a tile for each band.
-fn turned_tiles(s: &[u8], layout: Layout, number: u8, a: usize) -> [u64; 4]
-    requires { MatrixFits s.now layout × (a < 4) }
-    ensures { TurnedTiles s.now number a result }
-{
-    let groups = layout.groupcount as usize;
-    let mut tiles = [0u64; 4];
-    let mut k: usize = 0;
-    while 8 * k < groups {
-        tiles[k] = turned_tile(s, layout, number, a, k);
-        k += 1;
-    }
-    tiles
-}
 
 // Row r of a tile.
 fn tile_row(tile: u64, r: usize) -> u32
@@ -54,17 +26,36 @@ fn row_of(tiles: [u64; 4], r: usize) -> u32
     low + 65536 * high
 }
 
-// The groups turned, a number for each of the eight groups of band a, or for each phase. Its bits below N are those of the groups; the others are open.
-pub fn turned(s: &[u8], layout: Layout, number: u8, a: usize) -> [u32; 8]
-    requires { MatrixFits s.now layout × (a < 4) }
-    ensures { Turned s.now number a result }
+// All rows of four tiles, a number for each.
+fn rows_of(tiles: [u64; 4]) -> [u32; 8]
+    ensures { Rows tiles result }
 {
-    let tiles = turned_tiles(s, layout, number, a);
     let mut rows = [0u32; 8];
-    let mut r: usize = 0;
-    while r < 8 {
+    for r in 0..8 {
         rows[r] = row_of(tiles, r);
-        r += 1;
     }
     rows
+}
+
+// For each of the eight groups of band a the groups that name it. Bits at or above N are open, here and in `members`.
+pub fn naming(m: &Matrix, a: usize) -> [u32; 8]
+    requires { a < 4 }
+    ensures { Turned m.now (names m.now a) result }
+{
+    let mut tiles = [0u64; 4];
+    for k in 0..m.bands() {
+        tiles[k] = mirrored(conflict_tile(m, k, a));
+    }
+    rows_of(tiles)
+}
+
+// For each phase the groups that are in it.
+pub fn members(m: &Matrix) -> [u32; 8]
+    ensures { Turned m.now (is_in m.now) result }
+{
+    let mut tiles = [0u64; 4];
+    for k in 0..m.bands() {
+        tiles[k] = mirrored(set_tile(m, k));
+    }
+    rows_of(tiles)
 }

@@ -1,5 +1,4 @@
--- A byte without the bit that 4 is stays below 3 exactly if it is a known mode: tried for each. Of those below 128 the highest bit
--- may be left out too.
+-- A number below 128 without the bit that 4 is stays below 3 exactly if it is a known mode: tried for each.
 use Prim.Native.Nat.{ℕ, ◌<◌}
 use mathlib.Core.Bool.{not}
 use mathlib.Core.Path.{◌≡◌, refl}
@@ -8,10 +7,6 @@ use lib.Dec.{leb}
 use Rattle.rules.specs.Personality.{known_mode}
 use Rattle.laws.specs.Folds.{all_of}
 use Rattle.laws.proofs.Tables.{table_same}
-
-pub mode-bits : (mode : ℕ) → mode < 256 → leb 3 (bit_and mode 251) ≡ not (known_mode mode)
-unfolding all_of known_mode
-mode-bits = table_same (λ m. leb 3 (bit_and m 251)) (λ m. not (known_mode m)) 256 refl
 
 pub mode-low-bits : (mode : ℕ) → mode < 128 → leb 3 (bit_and mode 123) ≡ not (known_mode mode)
 unfolding all_of known_mode

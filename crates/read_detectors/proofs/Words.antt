@@ -12,7 +12,7 @@ use borrow.Author.Tests.{lt-leb, eqb-true}
 use Rattle.laws.specs.Bytes.{byte_at, two_at, four_at}
 use Rattle.rules.specs.Personality.{body_at, record_at, phase_count, detectors_head, detector_phase, detector_mode, known_mode, bad_detector, bad_detector_at}
 use Rattle.rules.specs.Verdicts.{first_of}
-use Rattle.rules.specs.declared.answer.Verdict.TheVariants.{Accepted}
+use Rattle.rules.specs.Verdicts.{Accepted}
 use Rattle.laws.proofs.Booleans.{and_left, and_right, or-false-both}
 use Rattle.rules.proofs.Verdicts.{record_check, good_more}
 use Rattle.read_detectors.proofs.Modes.{mode-low-bits}

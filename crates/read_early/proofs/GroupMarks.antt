@@ -4,7 +4,7 @@ use mathlib.Core.List.{List}
 use mathlib.Core.Path.{◌≡◌}
 use native.Mathlib.Omega.{arith}
 use lib.ListN.{length}
-use Rattle.rules.specs.declared.answer.Verdict.TheVariants.{Accepted}
+use Rattle.rules.specs.Verdicts.{Accepted}
 use Rattle.laws.specs.Bytes.{byte_at}
 use Rattle.rules.specs.Personality.{body_at, record_at, conflicts_head, group_mark, groups_section}
 use Rattle.proof_acceptance.proofs.Sections.{groups-accepted, record-within}

@@ -2,51 +2,45 @@
 #![tactic(auto)]
 
 ghost use Rattle.std.specs.Prelude.{◌≡◌};
-ghost use Rattle.rules.specs.declared.answer.Verdict.TheVariants.{Accepted};
+ghost use Rattle.rules.specs.Verdicts.{Accepted};
 ghost use Rattle.laws.specs.Folds.{any_of};
 ghost use Rattle.rules.specs.Personality.{group_count, groups_section, stops_early, early_section, early_missing};
-ghost use Rattle.read_layout.specs.LayoutOf.{LayoutOf};
 
-use base_limits::limits;
-use read_layout::{Layout, edition_of};
+use read_layout::Sections;
 use read_sections::records::pair_at;
-use read_time_records::timed_section;
-use rules::answer::Verdict;
+use read_time_records::{WithLimits, timed_section};
+use rules::answer::Refusal;
 
 // The checks of kind 7, if it is present: a time of early cut-off green for each phase.
-pub fn early_section(s: &[u8], layout: Layout) -> Verdict
-    requires { LayoutOf s.now layout }
+#[tactic(auto, using(crate::proofs::Seventh::early_there, crate::proofs::Seventh::early_absent))]
+pub fn early_section(s: &Sections) -> Result<(), Refusal>
     ensures { result ≡ early_section s.now }
 {
-    if !layout.hasearly {
-        return Verdict::Accepted;
+    if !s.layout.hasearly {
+        return Ok(());
     }
-    let table = limits(edition_of(s));
-    let phases = layout.phasecount as usize;
-    timed_section(s, table, layout.early, 7, 10, 1, phases)
+    let times = WithLimits::new(s.bytes);
+    let phases = usize::from(s.layout.phasecount);
+    timed_section(&times, s.layout.early, 7, 10, 1, phases)
 }
 
 // 17: if kind 7 is missing, refuses at the first group that stops early. `some` says if there is one. Kind 3 is accepted before.
-pub fn early_missing(s: &[u8], layout: Layout, some: bool) -> Verdict
-    requires { LayoutOf s.now layout × (groups_section s.now ≡ Accepted)
+#[tactic(auto, using(rules::proofs::Checks::checks), unfolding(rules::specs::Personality::early_missing, rules::specs::Personality::stops_early))]
+pub fn early_missing(s: &Sections, some: bool) -> Result<(), Refusal>
+    requires { (groups_section s.now ≡ Accepted)
         × (some ≡ any_of (stops_early s.now) (group_count s.now)) }
     ensures { result ≡ early_missing s.now }
 {
-    if layout.hasearly | !some {
-        return Verdict::Accepted;
+    if s.layout.hasearly || !some {
+        return Ok(());
     }
-    let groups = layout.groupcount as usize;
-    let head = layout.groups;
-    let mut g: usize = 0;
-    while g < groups {
-        let group = pair_at(s, head, g);
-        if group.second == 3 {
-            return Verdict::Refused {
+    for g in 0..usize::from(s.layout.groupcount) {
+        if pair_at(s.bytes, s.layout.groups, g).second == 3 {
+            return Err(Refusal {
                 number: 17,
-                place: head + 4 + g * 2,
-            };
+                place: s.layout.groups + 4 + g * 2,
+            });
         }
-        g += 1;
     }
-    Verdict::Accepted
+    Ok(())
 }

@@ -1,2 +1,3 @@
+pub mod BadGroups
 pub mod GroupChecks
 pub mod PhaseSets

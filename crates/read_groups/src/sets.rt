@@ -7,6 +7,7 @@ use base_bytes::byte_at;
 use read_layout::Layout;
 
 // The phase set of group g.
+#[tactic(auto, unfolding(rules::specs::Personality::group_set, rules::specs::Personality::record_at, rules::specs::Personality::body_at))]
 pub fn group_set(s: &[u8], layout: Layout, g: usize) -> u8
     requires { LayoutOf s.now layout × (g ≤ 255) }
     ensures { result ≡ group_set s.now g }
@@ -18,5 +19,5 @@ pub fn group_set(s: &[u8], layout: Layout, g: usize) -> u8
 pub fn reaches32(k: u8, x: u32) -> bool
     ensures { result ≡ leb (2 ^ k) x }
 {
-    if k < 32 { x >> k != 0 } else { false }
+    k < 32 && x >> k != 0
 }

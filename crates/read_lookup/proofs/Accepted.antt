@@ -8,7 +8,7 @@ use native.Mathlib.Omega.{arith}
 use lib.Dec.{leb, eqb}
 use lib.ListN.{length}
 use borrow.Author.Tests.{leb-true, eqb-true}
-use Rattle.rules.specs.declared.answer.Verdict.TheVariants.{Accepted}
+use Rattle.rules.specs.Verdicts.{Accepted}
 use Rattle.rules.specs.declared.site.Edition.{Edition}
 use Rattle.rules.specs.declared.site.Edition.TheVariants.{One, Two}
 use Rattle.rules.specs.Personality.{body_at, body_length, edition_of, site_kind, site_head, phases_head, groups_head, conflicts_head, detectors_head, pedestrians_head, has_early, has_order, site_section, timed_section, phases_section, groups_section, conflicts_section, detectors_section, pedestrians_section, verdict_of}

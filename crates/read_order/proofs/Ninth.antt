@@ -12,35 +12,15 @@ use lib.Bits.{bit_or, or_lt}
 use lib.Dec.{eqb}
 use lib.Pow.{pow_pos, pow_mono}
 use borrow.Author.Tests.{eqb-true, eqb-false, eq-eqb, ne_eqb, not-false}
-use Rattle.rules.specs.declared.answer.Verdict.{Verdict}
-use Rattle.rules.specs.declared.answer.Verdict.TheVariants.{Accepted}
 use Rattle.laws.specs.Bytes.{bit}
 use Rattle.laws.specs.Folds.{any_of}
-use Rattle.rules.specs.Verdicts.{◌or_else◌, refuse_if}
-use Rattle.rules.specs.Personality.{body_length, phase_count, order_head, has_order, order_at, section_at, phase_not_once, order_section}
+use Rattle.rules.specs.Personality.{phase_count, order_at, phase_not_once}
 use Rattle.laws.proofs.Booleans.{decided}
 use Rattle.laws.proofs.Folds.{any_at, any_none, any_false}
 use Rattle.laws.proofs.Counting.{count-one, listed-once}
 use Rattle.laws.proofs.Bits.{bit-blank, bit-one}
 use Rattle.laws.proofs.BitRanges.{shifted, full-each, all-full}
 use Rattle.laws.proofs.JoinedBits.{bit-or}
-
--- ── Kind 9, by whether it is there ──
-
-module _ (b : List ℕ) where
-  pub none-ordered : has_order b ≡ false → Accepted ≡ order_section b
-  unfolding order_section
-  none-ordered missing = rw missing
-
-  pub ordered :
-      has_order b ≡ true →
-      {v : Verdict} →
-      v
-      ≡ (section_at b (order_head b) 9 (eqb (body_length b (order_head b)) (phase_count b))
-      or_else refuse_if (phase_not_once b) 18 (order_head b)) →
-      v ≡ order_section b
-  unfolding order_section
-  ordered there e = e ∙ rw there
 
 -- ── The phases listed, as a set ──
 
@@ -73,10 +53,6 @@ module _ (b : List ℕ) where
             within = listed.within;
             told = λ q m. listed.told q m ∙ rw (add-one i, ne_eqb (order_at b i) q (λ e. omega (arith, read, e))) (sym (or-false _));
           }
-
-    -- the set is a byte with room for one more
-    pub set-fits : {set i : ℕ} → Listed b set i → set + 1 < 256
-    set-fits listed = omega (arith, listed.within, pow_mono few)
 
     pub listed-decided :
         {set i : ℕ} → Listed b set i → i ≡ phase_count b → eqb (set + 1) (1 * 2 ^ phase_count b % 2 ^ 8) ≡ not (phase_not_once b)

@@ -1,9 +1,9 @@
 // Unit one: reads a personality. The sections are checked in their order, and the first check that fails gives the answer.
 #![tactic(auto)]
 
-ghost use Rattle.std.specs.Prelude.{◌≡◌};
-ghost use Rattle.rules.specs.Personality.{verdict_of};
-ghost use Rattle.read_layout.specs.LayoutOf.{LayoutOf};
+ghost use Rattle.std.specs.Prelude.{◌≡◌, IfOk};
+ghost use Rattle.rules.specs.Verdicts.{verdict};
+ghost use Rattle.rules.specs.Personality.{movement_count, verdict_of};
 
 mod after;
 
@@ -11,62 +11,47 @@ use after::after_pedestrians;
 use read_conflicts::conflicts_section;
 use read_detectors::detectors_section;
 use read_groups::records::groups_section;
-use read_layout::{Layout, layout_of};
+use read_layout::{Counted, Personality, Sections};
 use read_time_sections::{pedestrians_section, phases_section, site_section};
-use rules::answer::Verdict;
+use rules::answer::Refusal;
 
-// A verdict and the places of the sections.
-#[derive(Clone, Copy)]
-pub struct Reading {
-    pub verdict: Verdict,
-    pub layout: Layout,
+// The checks after the site section's, in their order. If all pass, the answer is the number of pedestrian movements.
+#[tactic(auto, using(rules::proofs::Checks::checks), unfolding(rules::specs::Personality::verdict_of))]
+fn after_site(c: &Counted) -> Result<usize, Refusal>
+    ensures verdict { verdict result ≡ verdict_of c.now }
+    ensures movements { IfOk result (λ n. n ≡ movement_count c.now) }
+{
+    let s = &c.sections;
+    phases_section(s)?;
+    let groups = groups_section(s)?;
+    conflicts_section(c)?;
+    detectors_section(c)?;
+    pedestrians_section(s, groups.movements)?;
+    after_pedestrians(c, groups.crossed, groups.early)?;
+    Ok(groups.movements)
 }
 
-fn checked(personality: &[u8], layout: Layout) -> Verdict
-    requires { LayoutOf personality.now layout }
-    ensures { result ≡ verdict_of personality.now }
+// Accepts or refuses a personality. An accepted one is handed out with the places of its sections, for callers that go on to decode the site.
+#[tactic(auto, using(rules::proofs::Checks::checks), unfolding(rules::specs::Personality::verdict_of))]
+pub fn accepted<'a>(personality: &'a [u8]) -> Result<Personality<'a>, Refusal>
+    ensures verdict { verdict result ≡ verdict_of personality.now }
+    ensures bytes { IfOk result (λ p. p ≡ personality.now) }
 {
-    let site = site_section(personality, layout);
-    if let Verdict::Refused { .. } = site {
-        return site;
-    }
-    let phases = phases_section(personality, layout);
-    if let Verdict::Refused { .. } = phases {
-        return phases;
-    }
-    let groups = groups_section(personality, layout);
-    let grouped = groups.verdict;
-    if let Verdict::Refused { .. } = grouped {
-        return grouped;
-    }
-    let conflicts = conflicts_section(personality, layout);
-    if let Verdict::Refused { .. } = conflicts {
-        return conflicts;
-    }
-    let detectors = detectors_section(personality, layout);
-    if let Verdict::Refused { .. } = detectors {
-        return detectors;
-    }
-    let pedestrians = pedestrians_section(personality, layout, groups.movements);
-    if let Verdict::Refused { .. } = pedestrians {
-        return pedestrians;
-    }
-    after_pedestrians(personality, layout, groups.crossed, groups.early)
-}
-
-// The verdict, and the layout for callers that go on to decode the site. The layout is returned and not taken as an argument: so the checks
-// keep it in registers and do not wait until it is stored.
-pub fn read_with_layout(personality: &[u8]) -> Reading
-    ensures { (result.verdict ≡ verdict_of personality.now) × LayoutOf personality.now result.layout }
-{
-    let layout = layout_of(personality);
-    let verdict = checked(personality, layout);
-    Reading { verdict, layout }
+    let sections = Sections::new(personality);
+    site_section(&sections)?;
+    let c = Counted { sections };
+    let movements = after_site(&c)?;
+    Ok(Personality {
+        sections: c.sections,
+        movements,
+    })
 }
 
 // Accepts or refuses a personality.
-pub fn read(personality: &[u8]) -> Verdict
+#[tactic(auto, using(rules::proofs::Checks::checks))]
+pub fn read(personality: &[u8]) -> Result<(), Refusal>
     ensures { result ≡ verdict_of personality.now }
 {
-    read_with_layout(personality).verdict
+    accepted(personality)?;
+    Ok(())
 }

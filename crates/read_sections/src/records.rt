@@ -12,6 +12,7 @@ pub struct Pair {
 }
 
 // Record i of the section with this head.
+#[tactic(auto, unfolding(rules::specs::Personality::record_at, rules::specs::Personality::body_at))]
 pub fn pair_at(s: &[u8], head: usize, i: usize) -> Pair
     requires { record_at head 2 i + 2 ≤ length s.now }
     ensures { (result.first ≡ byte_at s.now (record_at head 2 i))
