@@ -1,89 +1,105 @@
 // The tables of a site, decoded from the bytes of a personality: groups with the phase sets of the pedestrian ones, conflicts,
-// detectors and the running order. The bytes reach to the end of the last section. Array entries past the section's own count are zero.
+// detectors and the running order. Array entries past the section's own count are zero.
 #![tactic(auto)]
 
 ghost use Rattle.std.specs.Prelude.{◌<◌, ◌≡◌};
-ghost use Rattle.rules.specs.Personality.{detector_count};
+ghost use Rattle.rules.specs.Personality.{detector_count, phase_count};
 ghost use Rattle.rules.specs.Site.{order_in, site_of};
-ghost use Rattle.site_rows.specs.Fitting.{Fitting, group_rows_in};
+ghost use Rattle.site_rows.specs.Fitting.{group_rows_in};
 
 use base_bytes::{byte_in, four_in};
-use read_layout::Layout;
+use read_layout::{Layout, Personality};
 use read_sections::records::pair_at;
 use rules::site::{Detector, Group};
+use std::marker::Model;
+
+// Bytes of a personality whose sections are all there and whose counts fit a site, with the number of its movements. A contract sees the bytes.
+#[derive(Drop)]
+pub struct Fitted<'a> {
+    pub bytes: &'a [u8],
+    pub layout: &'a Layout,
+    pub movements: usize,
+}
+
+impl<'a> Model for Fitted<'a> {
+    ghost use Rattle.std.specs.Prelude.{List, ℕ, ◌≡◌};
+    ghost use Rattle.rules.specs.Personality.{movement_count};
+    ghost use Rattle.site_rows.specs.Fitting.{Fitting};
+
+    ghost Value = { List ℕ };
+
+    ghost view = { λ f. f.bytes.now };
+
+    ghost invariant = { λ f. Fitting f.bytes.now f.layout.now × (f.movements ≡ movement_count f.bytes.now) };
+}
+
+impl<'a> Fitted<'a> {
+    // An accepted personality fits a site.
+    pub fn of(p: &'a Personality<'a>) -> Self
+        ensures { result ≡ p.now }
+    {
+        let sections = &p.sections;
+        Fitted {
+            bytes: sections.bytes,
+            layout: &sections.layout,
+            movements: p.movements,
+        }
+    }
+}
 
 // ---- Groups, with their movements ----
 
-// The groups, and of the pedestrian ones, each with a movement: how many there are, and their phase sets in group order.
+// The groups, and the phase sets of the pedestrian ones in group order: each has a movement.
 #[derive(Clone, Copy)]
 pub struct GroupRows {
     pub groups: [Group; 32],
-    pub movements: usize,
     pub crossings: [u8; 8],
 }
 
-pub fn group_rows_in(s: &[u8], layout: Layout) -> GroupRows
-    requires { Fitting s.now layout }
-    ensures { result ≡ group_rows_in s.now }
+pub fn group_rows_in(f: &Fitted) -> GroupRows
+    ensures { result ≡ group_rows_in f.now }
 {
-    let head = layout.groups;
-    let count = layout.groupcount as usize;
     let blank = Group { phases: 0, mark: 0 };
-    let mut rows = [blank; 32];
-    let mut sets = [0u8; 8];
-    let mut movements: usize = 0;
-    let mut g: usize = 0;
-    while g < count {
-        let group = pair_at(s, head, g);
-        rows[g] = Group {
+    let mut groups = [blank; 32];
+    let mut movements = 0;
+    let mut crossings = [0; 8];
+    for g in 0..usize::from(f.layout.groupcount) {
+        let group = pair_at(f.bytes, f.layout.groups, g);
+        groups[g] = Group {
             phases: group.first,
             mark: group.second,
         };
         if group.second == 2 {
-            sets[movements] = group.first;
+            crossings[movements] = group.first;
             movements += 1;
         }
-        g += 1;
     }
-    GroupRows {
-        groups: rows,
-        movements,
-        crossings: sets,
-    }
+    GroupRows { groups, crossings }
 }
 
 // ---- Conflicts, detectors ----
 
-pub fn conflicts(s: &[u8], layout: Layout) -> [u32; 32]
-    requires { Fitting s.now layout }
-    ensures { result ≡ (site_of s.now).conflicts }
+pub fn conflicts(f: &Fitted) -> [u32; 32]
+    ensures { result ≡ (site_of f.now).conflicts }
 {
-    let head = layout.conflicts;
-    let count = layout.groupcount as usize;
-    let mut rows = [0u32; 32];
-    let mut g: usize = 0;
-    while g < count {
-        rows[g] = four_in(s, head + 4 + g * 4);
-        g += 1;
+    let mut rows = [0; 32];
+    for g in 0..usize::from(f.layout.groupcount) {
+        rows[g] = four_in(f.bytes, f.layout.conflicts + 4 + g * 4);
     }
     rows
 }
 
-pub fn detectors(s: &[u8], layout: Layout, count: usize) -> [Detector; 48]
-    requires { Fitting s.now layout × (count ≡ detector_count s.now) }
-    ensures { result ≡ (site_of s.now).detectors }
+pub fn detectors(f: &Fitted, count: usize) -> [Detector; 48]
+    requires { count ≡ detector_count f.now }
+    ensures { result ≡ (site_of f.now).detectors }
 {
-    let head = layout.detectors;
-    let blank = Detector { phase: 0, mode: 0 };
-    let mut rows = [blank; 48];
-    let mut d: usize = 0;
-    while d < count {
-        let detector = pair_at(s, head, d);
+    let mut rows = [Detector { phase: 0, mode: 0 }; 48];
+    for d in 0..count {
+        let detector = pair_at(f.bytes, f.layout.detectors, d);
         rows[d] = Detector {
             phase: detector.first,
             mode: detector.second,
         };
-        d += 1;
     }
     rows
 }
@@ -91,26 +107,24 @@ pub fn detectors(s: &[u8], layout: Layout, count: usize) -> [Detector; 48]
 // ---- The running order ----
 
 // The i-th phase of the running order: entry i of kind 9, or phase i if kind 9 is not present.
-fn order_in(s: &[u8], layout: Layout, i: u8) -> u8
-    requires { Fitting s.now layout × (i < layout.phasecount) }
-    ensures { result ≡ order_in s.now i }
+#[tactic(auto, unfolding(rules::specs::Site::order_in, rules::specs::Personality::order_at, rules::specs::Personality::record_at, rules::specs::Personality::body_at))]
+fn order_in(f: &Fitted, i: u8) -> u8
+    requires { i < phase_count f.now }
+    ensures { result ≡ order_in f.now i }
 {
-    if layout.hasorder {
-        return byte_in(s, layout.order + 4 + i as usize);
+    if f.layout.hasorder {
+        byte_in(f.bytes, f.layout.order + 4 + usize::from(i))
+    } else {
+        i
     }
-    i
 }
 
-pub fn order(s: &[u8], layout: Layout) -> [u8; 7]
-    requires { Fitting s.now layout }
-    ensures { result ≡ (site_of s.now).order }
+pub fn order(f: &Fitted) -> [u8; 7]
+    ensures { result ≡ (site_of f.now).order }
 {
-    let count = layout.phasecount;
-    let mut phases = [0u8; 7];
-    let mut i: u8 = 0;
-    while i < count {
-        phases[i as usize] = order_in(s, layout, i);
-        i += 1;
+    let mut phases = [0; 7];
+    for i in 0..f.layout.phasecount {
+        phases[usize::from(i)] = order_in(f, i);
     }
     phases
 }

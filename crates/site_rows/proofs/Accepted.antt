@@ -3,7 +3,7 @@ use Prim.Native.Nat.{ℕ}
 use mathlib.Core.List.{List}
 use mathlib.Core.Path.{◌≡◌, sym, ◌∙◌}
 use native.Mathlib.Omega.{arith}
-use Rattle.rules.specs.declared.answer.Verdict.TheVariants.{Accepted}
+use Rattle.rules.specs.Verdicts.{Accepted}
 use Rattle.rules.specs.Personality.{early_head, past_section, verdict_of}
 use Rattle.proof_acceptance.proofs.Sections.{sections-accepted}
 use Rattle.read_layout.specs.declared.Layout.{Layout}
@@ -24,3 +24,8 @@ accepted-fits {b} h laid =
       early = λ there. rw (laid.early, laid.phasecount) (told.early (sym laid.hasearly ∙ there)).next;
       order = λ there. rw (laid.order, laid.phasecount) (told.order (sym laid.hasorder ∙ there)).next;
     }
+
+-- the same of the value that a contract sees, by what an opened personality and its opened sections tell
+pub fitting-of :
+    {value own bytes : List ℕ} {w : Layout} → bytes ≡ own → own ≡ value → verdict_of own ≡ Accepted → LayoutOf bytes w → Fitting value w
+fitting-of within seen accepted laid = accepted-fits (rw (← seen) accepted) (rw (← seen, ← within) laid)
