@@ -1,6 +1,6 @@
 -- What the tests of bytes tell, field by field, and the test of the movement records at the places that the code reads.
 use Prim.Native.Nat.{ℕ, ◌+◌, ◌*◌, ◌<◌}
-use mathlib.Core.Bool.{Bool, true, ◌&&◌, and-true}
+use mathlib.Core.Bool.{true, and-true}
 use mathlib.Core.List.{List}
 use mathlib.Core.Path.{◌≡◌}
 use native.Mathlib.Nat.{add-zero}
@@ -47,10 +47,3 @@ kept-told b at h =
       position-known = rw (add-zero at) (and_left (position.known b at) true (and_left _ true parts.0));
       movements-known = parts.1;
     }
-
--- any bytes are counts, demands and a kept set
-pub kept-tested : (b : List ℕ) (at : ℕ) → (position.known b (at + 0) && movements.known b (at + 14)) ≡ state.known b at
-kept-tested b at = rw (add-zero at) (others (position.known b at) (movements.known b (at + 14)))
-  where
-    others : (x y : Bool) → (x && y) ≡ ((((x && true) && true) && y) && true)
-    others x y = simp and-true

@@ -1,6 +1,5 @@
 -- Two states, byte by byte.
-use Rattle.std.specs.Prelude.{◌+◌, [], ◌∷◌, ◌≡◌}
-use Rattle.rules.specs.declared.state.Held.TheVariants.{Phase}
+use Rattle.std.specs.Prelude.{◌+◌, [], ◌∷◌, ◌≡◌, Some}
 use Rattle.rules.specs.declared.state.Interval.TheVariants.{Yellow}
 use Rattle.rules.specs.declared.state.KeptState.{KeptState}
 use Rattle.rules.specs.declared.state.Stage.TheVariants.{ClearanceOne, ClearanceTwo}
@@ -24,7 +23,7 @@ leaving =
     record {
       core =
           record {
-            position = record { phase = 2; interval = Yellow; age = 300; previous = Phase 0; target = Phase 5 };
+            position = record { phase = 2; interval = Yellow; age = 300; previous = Some 0; target = Some 5 };
             counts = record { gap = 513; maximum = 1500 };
             demands = record { locks = 2 + 64; buttons = 2 };
             movements =

@@ -27,7 +27,7 @@ pub fn known(bytes: &[u8], at: usize) -> bool
     requires { at + state_form.width ≤ length bytes.now }
     ensures { result ≡ state_form.known bytes.now at }
 {
-    position::known(bytes, at + POSITION) & movements::known(bytes, at + MOVEMENTS)
+    position::known(bytes, at + POSITION) && movements::known(bytes, at + MOVEMENTS)
 }
 
 pub fn read(bytes: &[u8], at: usize) -> KeptState
@@ -49,10 +49,9 @@ pub fn put(bytes: &mut [u8], at: usize, state: KeptState)
     requires { at + state_form.width ≤ length bytes.old }
     ensures { bytes.new ≡ sets bytes.old at (state_form.written state) }
 {
-    let movements = state.core.movements;
     position::put(bytes, at + POSITION, state.core.position);
     counts::put(bytes, at + COUNTS, state.core.counts);
     demands::put(bytes, at + DEMANDS, state.core.demands);
-    movements::put(bytes, at + MOVEMENTS, movements);
+    movements::put(bytes, at + MOVEMENTS, state.core.movements);
     bytes[at + KEPT] = state.kept;
 }

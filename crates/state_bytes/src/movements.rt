@@ -16,11 +16,9 @@ pub fn known(bytes: &[u8], at: usize) -> bool
     requires { at + movements_form.width ≤ length bytes.now }
     ensures { result ≡ movements_form.known bytes.now at }
 {
-    let mut joined: u8 = 0;
-    let mut k: usize = 0;
-    while k < 8 {
-        joined = joined | bytes[at + k * RECORD + STAGE];
-        k += 1;
+    let mut joined = 0;
+    for k in 0..8 {
+        joined |= bytes[at + k * RECORD + STAGE];
     }
     base_intervals::stage_known(joined)
 }
@@ -43,22 +41,14 @@ pub fn read(bytes: &[u8], at: usize) -> [Movement; 8]
         stage: Stage::Idle,
         age: 1,
     };
-    let mut records = [idle; 8];
-    let mut k: usize = 0;
-    while k < 8 {
-        records[k] = read_one(bytes, at + k * RECORD);
-        k += 1;
-    }
-    records
+    state_forms::row(8, idle, |k| read_one(bytes, at + k * RECORD))
 }
 
 fn put_one(bytes: &mut [u8], at: usize, own: Movement)
     requires { at + movement.width ≤ length bytes.old }
     ensures { bytes.new ≡ sets bytes.old at (movement.written own) }
 {
-    let stage = own.stage;
-    let row = base_intervals::stage_row(stage);
-    bytes[at + STAGE] = row.code;
+    bytes[at + STAGE] = base_intervals::stage_row(own.stage).code;
     state_forms::put_two(bytes, at + AGE, own.age);
 }
 
@@ -66,10 +56,5 @@ pub fn put(bytes: &mut [u8], at: usize, movements: [Movement; 8])
     requires { at + movements_form.width ≤ length bytes.old }
     ensures { bytes.new ≡ sets bytes.old at (movements_form.written movements) }
 {
-    let mut k: usize = 0;
-    while k < 8 {
-        let own = movements[k];
-        put_one(bytes, at + k * RECORD, own);
-        k += 1;
-    }
+    state_forms::put_row(bytes, at, RECORD, &movements, put_one);
 }

@@ -20,8 +20,8 @@ pub fn known(bytes: &[u8], at: usize) -> bool
     ensures { result ≡ position_form.known bytes.now at }
 {
     base_intervals::interval_known(bytes[at + INTERVAL])
-        & state_forms::held_known(bytes, at + CAME)
-        & state_forms::held_known(bytes, at + TARGET)
+        && state_forms::held_known(bytes, at + CAME)
+        && state_forms::held_known(bytes, at + TARGET)
 }
 
 pub fn read(bytes: &[u8], at: usize) -> Position
@@ -41,13 +41,9 @@ pub fn put(bytes: &mut [u8], at: usize, position: Position)
     requires { at + position_form.width ≤ length bytes.old }
     ensures { bytes.new ≡ sets bytes.old at (position_form.written position) }
 {
-    let interval = position.interval;
-    let previous = position.previous;
-    let target = position.target;
-    let row = base_intervals::interval_row(interval);
     bytes[at + PHASE] = position.phase;
-    bytes[at + INTERVAL] = row.code;
+    bytes[at + INTERVAL] = base_intervals::interval_row(position.interval).code;
     state_forms::put_two(bytes, at + AGE, position.age);
-    state_forms::put_held(bytes, at + CAME, previous);
-    state_forms::put_held(bytes, at + TARGET, target);
+    state_forms::put_held(bytes, at + CAME, position.previous);
+    state_forms::put_held(bytes, at + TARGET, position.target);
 }

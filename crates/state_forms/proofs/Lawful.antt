@@ -11,11 +11,9 @@ use lib.Dec.{ltb, eqb}
 use lib.ListN.{length, get_or, length-append, get_or-eq_default}
 use lib.Seq.{sets}
 use borrow.Author.Tests.{lt-ltb, ltb-true, ltb-false, eqb-true}
-use Rattle.rules.specs.declared.state.Held.{Held}
-use Rattle.rules.specs.declared.state.Held.TheVariants.{Nothing, Phase}
 use Rattle.laws.specs.Bytes.{byte_at, two_at}
 use Rattle.rules.specs.IntervalTable.{is_held, phase_held}
-use Rattle.std.specs.Prelude.{if◌then◌else◌}
+use Rattle.std.specs.Prelude.{if◌then◌else◌, Option, Some, None}
 use Rattle.laws.specs.Folds.{all_of, list_of}
 use Rattle.laws.proofs.Booleans.{decided, and_left, and_right, and_both, or_cases}
 use Rattle.laws.proofs.Folds.{all-at}
@@ -109,8 +107,8 @@ module _ {A : Type 0} (first : A) (code : A → ℕ) where
 abbrev held_known : ℕ → ℕ → Bool
 held_known tag phase = eqb tag 1 || (eqb tag 0 && eqb phase 0)
 
-abbrev held_of : ℕ → ℕ → Held
-held_of tag phase = if eqb tag 1 then Phase phase else Nothing
+abbrev held_of : ℕ → ℕ → Option ℕ
+held_of tag phase = if eqb tag 1 then Some phase else None
 
 -- a known tag is 0 or 1
 pub tag-known : (tag phase : ℕ) → held_known tag phase ≡ true → tag < 2
@@ -120,15 +118,15 @@ tag-known tag phase h =
     (λ (e : (eqb tag 0 && eqb phase 0) ≡ true). omega (arith, eqb-true tag 0 (and_left (eqb tag 0) (eqb phase 0) e)))
     (or_cases (eqb tag 1) (eqb tag 0 && eqb phase 0) h)
 
-held-passes : (h : Held) → held_known (flag_code (is_held h)) (phase_held h) ≡ true
+held-passes : (h : Option ℕ) → held_known (flag_code (is_held h)) (phase_held h) ≡ true
 unfolding is_held phase_held
-held-passes Nothing = refl
-held-passes (Phase p) = refl
+held-passes None = refl
+held-passes (Some p) = refl
 
-held_back : (h : Held) → held_of (flag_code (is_held h)) (phase_held h) ≡ h
+held_back : (h : Option ℕ) → held_of (flag_code (is_held h)) (phase_held h) ≡ h
 unfolding is_held phase_held
-held_back Nothing = refl
-held_back (Phase p) = refl
+held_back None = refl
+held_back (Some p) = refl
 
 held_same : (tag phase : ℕ) → held_known tag phase ≡ true → flag_code (is_held (held_of tag phase)) ∷ phase_held (held_of tag phase) ∷ [] ≡ tag ∷ phase ∷ []
 unfolding is_held phase_held
@@ -140,7 +138,7 @@ held-proper : (tag phase : ℕ) → phase < 256 → phase_held (held_of tag phas
 unfolding phase_held
 held-proper tag phase h = by-tag (eqb tag 1)
   where
-    by-tag : (t : Bool) → phase_held (if t then Phase phase else Nothing) < 256
+    by-tag : (t : Bool) → phase_held (if t then Some phase else None) < 256
     by-tag true = h
     by-tag false = omega arith
 

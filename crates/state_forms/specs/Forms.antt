@@ -1,8 +1,6 @@
 -- How values are written in bytes. A form says how many bytes a value has, which bytes they are, whether the bytes at a place are such a
 -- value, and which value they are. `fits` says which values the type of the machine has. Numbers are little-endian.
-use Rattle.std.specs.Prelude.{ℕ, zero, suc, ◌+◌, ◌*◌, ◌/◌, ◌%◌, ◌<◌, Bool, true, ◌&&◌, ◌||◌, List, [], ◌∷◌, ◌++◌, ◌≡◌, eqb, ltb, length, get_or, if◌then◌else◌}
-use Rattle.rules.specs.declared.state.Held.{Held}
-use Rattle.rules.specs.declared.state.Held.TheVariants.{Nothing, Phase}
+use Rattle.std.specs.Prelude.{ℕ, zero, suc, ◌+◌, ◌*◌, ◌/◌, ◌%◌, ◌<◌, Bool, true, ◌&&◌, ◌||◌, List, [], ◌∷◌, ◌++◌, ◌≡◌, eqb, ltb, length, get_or, if◌then◌else◌, Option, Some, None}
 use Rattle.laws.specs.Bytes.{byte_at, two_at}
 use Rattle.rules.specs.IntervalTable.{is_held, phase_held}
 use Rattle.laws.specs.Folds.{all_of, list_of}
@@ -39,13 +37,13 @@ abbrev pub flag_code : Bool → ℕ
 flag_code flag = if flag then 1 else 0
 
 -- a phase or none: a tag of 1 and the phase, or 0 and 0 for none
-abbrev pub held : Form Held
+abbrev pub held : Form (Option ℕ)
 held =
     record {
       width = 2;
       written = λ h. flag_code (is_held h) ∷ phase_held h ∷ [];
       known = λ b at. eqb (byte_at b at) 1 || (eqb (byte_at b at) 0 && eqb (byte_at b (at + 1)) 0);
-      read = λ b at. if eqb (byte_at b at) 1 then Phase (byte_at b (at + 1)) else Nothing;
+      read = λ b at. if eqb (byte_at b at) 1 then Some (byte_at b (at + 1)) else None;
       fits = λ h. phase_held h < 256;
     }
 

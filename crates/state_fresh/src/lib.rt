@@ -2,18 +2,17 @@
 #![tactic(auto)]
 
 ghost use Rattle.std.specs.Prelude.{◌≡◌, length};
-ghost use Rattle.rules.specs.declared.answer.Verdict.TheVariants.{Accepted};
 ghost use Rattle.rules.specs.Kept.{fresh_kept};
-ghost use Rattle.rules.specs.Personality.{verdict_of};
 ghost use Rattle.rules.specs.Site.{site_of};
 ghost use Rattle.rules.specs.Timed.{fresh_timed};
-ghost use Rattle.read_layout.specs.LayoutOf.{LayoutOf};
 ghost use Rattle.state_timed.specs.TimedLayout.{timed_bytes, timed_encoded};
 
-use read_layout::Layout;
-use rules::state::{Counts, Demands, Held, Interval, KeptState, Movement, Position, Stage, State};
+use read_layout::Personality;
+use rules::state::{Counts, Demands, Interval, KeptState, Movement, Position, Stage, State};
+use site_rows::Fitted;
 
 // Start red of phase A at age 1. There is no came-from and no target. All counts are 0, all sets empty, all movements idle at age 1.
+#[tactic(auto, unfolding(rules::specs::Kept::fresh_kept, rules::specs::State::fresh))]
 pub fn fresh() -> KeptState
     ensures { result ≡ fresh_kept }
 {
@@ -27,8 +26,8 @@ pub fn fresh() -> KeptState
                 phase: 0,
                 interval: Interval::StartRed,
                 age: 1,
-                previous: Held::Nothing,
-                target: Held::Nothing,
+                previous: None,
+                target: None,
             },
             counts: Counts { gap: 0, maximum: 0 },
             demands: Demands {
@@ -42,10 +41,11 @@ pub fn fresh() -> KeptState
 }
 
 // Writes the fresh state of an accepted personality: its own times rule, and none wait.
-pub fn put_fresh(personality: &[u8], layout: Layout, state: &mut [u8])
-    requires { (verdict_of personality.now ≡ Accepted) × LayoutOf personality.now layout × (length state.old ≡ timed_bytes) }
-    ensures { state.new ≡ timed_encoded (fresh_timed (site_of personality.now)) }
+#[tactic(auto, unfolding(rules::specs::Timed::fresh_timed, rules::specs::Site::site_of))]
+pub fn put_fresh(p: &Personality, state: &mut [u8])
+    requires { length state.old ≡ timed_bytes }
+    ensures { state.new ≡ timed_encoded (fresh_timed (site_of p.now)) }
 {
-    let times = site_whole::own_times(personality, layout);
+    let times = site_whole::own_times(&Fitted::of(p));
     state_timed::put_settled(state, fresh(), times);
 }

@@ -29,38 +29,33 @@ const CHECK: usize = 343;
 pub const SEALED_BYTES: usize = 347;
 
 // Whether the record is of another version of the interface. One without a byte has no version.
+#[tactic(auto, using(std::proofs::lemmas::Bool::Decides::nat_tests), unfolding(crate::specs::Sealed::other_version, laws::specs::Bytes::byte_at))]
 pub fn other_version(sealed: &[u8]) -> bool
     ensures { result ≡ other_version sealed.now }
 {
-    if 0 < sealed.len() {
-        sealed[0] != VERSION
-    } else {
-        false
-    }
+    sealed.first().is_some_and(|version| *version != VERSION)
 }
 
 // Whether the record has another length, or does not end in the check value of the bytes before.
+#[tactic(auto, using(std::proofs::lemmas::Bool::Decides::nat_tests), unfolding(crate::specs::Sealed::damaged))]
 pub fn damaged(sealed: &[u8]) -> bool
     ensures { result ≡ damaged sealed.now }
 {
-    if sealed.len() != SEALED_BYTES {
-        return true;
-    }
-    four_in(sealed, CHECK) != crc(&sealed[..CHECK])
+    sealed.len() != SEALED_BYTES || four_in(sealed, CHECK) != crc(&sealed[..CHECK])
 }
 
 // Whether the record is of another personality: its length or its check value is another.
+#[tactic(auto, using(std::proofs::lemmas::Bool::Decides::nat_tests), unfolding(crate::specs::Sealed::other_personality))]
 pub fn other_personality(personality: &[u8], sealed: &[u8]) -> bool
     requires { length sealed.now ≡ sealed_bytes }
     ensures { result ≡ other_personality personality.now sealed.now }
 {
-    if two_in(sealed, SIZE) as usize != personality.len() {
-        return true;
-    }
-    four_in(sealed, PERSONALITY) != crc(personality)
+    usize::from(two_in(sealed, SIZE)) != personality.len()
+        || four_in(sealed, PERSONALITY) != crc(personality)
 }
 
 // The state in the record.
+#[tactic(auto, unfolding(crate::specs::Sealed::state_in))]
 pub fn state_in(sealed: &[u8]) -> &[u8]
     requires { length sealed.now ≡ sealed_bytes }
     ensures { result.now ≡ state_in sealed.now }

@@ -30,7 +30,7 @@ pub fn is_timed(bytes: &[u8]) -> bool
     if bytes.len() != TIMED_BYTES {
         return false;
     }
-    state_bytes::known(bytes, REST) & (bytes[PRESENT] < 2)
+    state_bytes::known(bytes, REST) && bytes[PRESENT] < 2
 }
 
 // Writes a state in which these times rule and none wait.

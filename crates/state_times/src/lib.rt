@@ -33,10 +33,8 @@ pub fn put(bytes: &mut [u8], at: usize, times: Times)
     requires { at + times_form.width ≤ length bytes.old }
     ensures { bytes.new ≡ sets bytes.old at (times_form.written times) }
 {
-    let phases = times.phases;
-    let walks = times.walks;
     state_forms::put_two(bytes, at + START, times.start);
-    phases::put(bytes, at + PHASES, phases);
-    walks::put(bytes, at + WALKS, walks);
-    phases::put_early(bytes, at + EARLIES, phases);
+    phases::put(bytes, at + PHASES, times.phases);
+    walks::put(bytes, at + WALKS, times.walks);
+    phases::put_early(bytes, at + EARLIES, times.phases);
 }

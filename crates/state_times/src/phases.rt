@@ -29,17 +29,20 @@ pub fn early_in(bytes: &[u8], early: usize, present: bool, p: usize) -> u16
     ensures { result ≡ early_in bytes.now early present p }
 {
     if present {
-        return base_bytes::two_in(bytes, early + p * EARLY);
+        base_bytes::two_in(bytes, early + p * EARLY)
+    } else {
+        0
     }
-    0
 }
 
 // The times of the first phases, and zeros for the others. The records are at one place, and the kind 7 times, if there are some, at another.
-// These are read in a loop of their own: one loop with a test in it is compiled twice, and is then too long to be inlined into a step.
+// These are read in a loop of their own: one loop with a test in it is compiled twice, and is then too long to be inlined into a step. With
+// a second return before that loop the row is copied, and a step takes 14 instructions more.
 pub fn read(bytes: &[u8], at: usize, early: usize, present: bool, count: usize) -> [PhaseTimes; 7]
     requires { (count ≤ 7) × (at + count * 12 ≤ length bytes.now) × (present ≡ true → early + count * 2 ≤ length bytes.now) }
     ensures { result ≡ row_of (phase_in bytes.now at early present) count 7 no_phase_times }
 {
+    // Written out: a derived Default would offer every crate the times of no phase of any site.
     let blank = PhaseTimes {
         late: 0,
         minimum: 0,
@@ -49,21 +52,11 @@ pub fn read(bytes: &[u8], at: usize, early: usize, present: bool, count: usize) 
         red: 0,
         early: 0,
     };
-    let mut records = [blank; 7];
-    let mut p: usize = 0;
-    while p < count {
-        records[p] = read_one(bytes, at + p * PHASE, 0);
-        p += 1;
-    }
-    if !present {
-        return records;
-    }
-    p = 0;
-    while p < count {
-        let mut own = records[p];
-        own.early = base_bytes::two_in(bytes, early + p * EARLY);
-        records[p] = own;
-        p += 1;
+    let mut records = state_forms::row(count, blank, |p| read_one(bytes, at + p * PHASE, 0));
+    if present {
+        for p in 0..count {
+            records[p].early = base_bytes::two_in(bytes, early + p * EARLY);
+        }
     }
     records
 }
@@ -84,12 +77,7 @@ pub fn put(bytes: &mut [u8], at: usize, records: [PhaseTimes; 7])
     requires { at + phases_form.width ≤ length bytes.old }
     ensures { bytes.new ≡ sets bytes.old at (phases_form.written (map six_of records)) }
 {
-    let mut p: usize = 0;
-    while p < 7 {
-        let own = records[p];
-        put_one(bytes, at + p * PHASE, own);
-        p += 1;
-    }
+    state_forms::put_row(bytes, at, PHASE, &records, put_one);
 }
 
 // The kind 7 times.
@@ -97,10 +85,11 @@ pub fn put_early(bytes: &mut [u8], at: usize, records: [PhaseTimes; 7])
     requires { at + earlies.width ≤ length bytes.old }
     ensures { bytes.new ≡ sets bytes.old at (earlies.written (map (λ p. p.early) records)) }
 {
-    let mut p: usize = 0;
-    while p < 7 {
-        let own = records[p];
-        state_forms::put_two(bytes, at + p * EARLY, own.early);
-        p += 1;
-    }
+    state_forms::put_row(
+        bytes,
+        at,
+        EARLY,
+        &records,
+        |bytes, at, own| state_forms::put_two(bytes, at, own.early),
+    );
 }

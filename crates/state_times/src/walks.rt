@@ -25,18 +25,13 @@ pub fn read(bytes: &[u8], at: usize, count: usize) -> [WalkTimes; 8]
     requires { (count ≤ 8) × (at + count * 6 ≤ length bytes.now) }
     ensures { result ≡ row_of (walk_in bytes.now at) count 8 no_walk_times }
 {
+    // Written out: a derived Default would offer every crate the times of no movement of any site.
     let blank = WalkTimes {
         walk: 0,
         first: 0,
         second: 0,
     };
-    let mut records = [blank; 8];
-    let mut k: usize = 0;
-    while k < count {
-        records[k] = read_one(bytes, at + k * WALK);
-        k += 1;
-    }
-    records
+    state_forms::row(count, blank, |k| read_one(bytes, at + k * WALK))
 }
 
 fn put_one(bytes: &mut [u8], at: usize, own: WalkTimes)
@@ -52,10 +47,5 @@ pub fn put(bytes: &mut [u8], at: usize, records: [WalkTimes; 8])
     requires { at + walks_form.width ≤ length bytes.old }
     ensures { bytes.new ≡ sets bytes.old at (walks_form.written records) }
 {
-    let mut k: usize = 0;
-    while k < 8 {
-        let own = records[k];
-        put_one(bytes, at + k * WALK, own);
-        k += 1;
-    }
+    state_forms::put_row(bytes, at, WALK, &records, put_one);
 }

@@ -5,7 +5,7 @@ use mathlib.Core.List.{List}
 use mathlib.Core.Path.{◌≡◌}
 use native.Mathlib.Omega.{arith}
 use borrow.Author.Tests.{lt-ltb}
-use Rattle.rules.specs.declared.answer.Verdict.TheVariants.{Accepted}
+use Rattle.rules.specs.Verdicts.{Accepted}
 use Rattle.rules.specs.Limits.{limits}
 use Rattle.rules.specs.Personality.{phase_count, movement_count, has_early, edition_of, verdict_of}
 use Rattle.rules.specs.Site.{no_phase_times, no_walk_times, phase_times_at, walk_times_at, times_in, site_of, phase_times, walk_times}

@@ -2,26 +2,32 @@
 use Prim.Native.Nat.{ℕ, ◌<◌}
 use mathlib.Core.Bool.{Bool, true, false}
 use mathlib.Core.List.{List}
-use mathlib.Core.Path.{◌≡◌, ap, subst⁻¹, ◌∙◌}
+use mathlib.Core.Path.{◌≡◌, ap}
 use native.Mathlib.Omega.{arith}
-use Rattle.rules.specs.declared.answer.Verdict.TheVariants.{Accepted}
-use Rattle.rules.specs.declared.site.Site.{Site}
-use Rattle.rules.specs.declared.state.KeptState.{KeptState}
+use lib.ListN.{length}
+use Rattle.rules.specs.Verdicts.{Accepted}
 use Rattle.laws.specs.Bytes.{byte_at}
-use Rattle.rules.specs.Personality.{verdict_of}
+use Rattle.rules.specs.Personality.{verdict_of, phase_count, movement_count, has_early}
 use Rattle.rules.specs.Site.{site_of}
 use Rattle.rules.specs.SiteTimes.{under, admitted, blank}
 use Rattle.rules.specs.Kept.{kept_valid}
-use Rattle.rules.specs.Timed.{TimedState, kept_of, ruled_site, waiting_valid, timed_valid}
+use Rattle.rules.specs.Timed.{TimedState, waiting_valid, timed_valid}
 use Rattle.rules.specs.Laws.{Sound, AcceptedIsSound}
-use Rattle.laws.proofs.Booleans.{and_left, and_right}
+use Rattle.laws.proofs.Booleans.{and_left}
 use Rattle.proof_acceptance.proofs.Acceptance.{accepted-is-sound}
 use Rattle.proof_change.proofs.Admitted.{admitted-is-sound}
 use Rattle.state_times.specs.TimesLayout.{times}
-use Rattle.state_timed.specs.TimedLayout.{is_timed, timed_decoded}
+use Rattle.state_timed.specs.TimedLayout.{timed_bytes, is_timed, timed_decoded}
+use Rattle.state_timed.proofs.TimedLaws.{timed-known}
 use Rattle.state_valid.specs.StateOf.{is_state_of}
-use Rattle.state_valid.specs.Decoded.{times_valid, Decoded}
+use Rattle.state_bytes.specs.Layout.{state}
+use Rattle.state_times.specs.TimeRows.{site_times}
+use Rattle.state_valid.specs.TimesValid.{times_valid}
 use Rattle.state_valid.proofs.AdmittedTimes.{site-times}
+
+-- a state has the length of one
+pub timed_size : (b : List ℕ) → is_timed b ≡ true → length b ≡ timed_bytes
+timed_size b known = (timed-known b known).size
 
 module _ (b old : List ℕ) where
   abbrev s : TimedState
@@ -50,37 +56,34 @@ module _ (b old : List ℕ) where
   unfolding is_state_of
   no-state other = rw other
 
-  module _ {site : Site} {kept : KeptState} (accepted : verdict_of b ≡ Accepted) (decoded : Decoded b old site kept) where
+  module _ (known : is_timed old ≡ true) where
     pub times-fail : times_valid b s ≡ false → false ≡ is_state_of b old
     unfolding is_state_of timed_valid
-    times-fail fail = rw (decoded.known, fail)
+    times-fail fail = rw (known, fail)
 
     -- past the test of the times the site is the one under the ruling times
-    module _ (ok : times_valid b s ≡ true) where
-      ruling-ok : admitted (site_of b) (times.read old 39) ≡ true
-      unfolding timed_decoded
-      ruling-ok = and_left (admitted (site_of b) s.ruling) _ ok
+    pub rest-decides :
+        {r : Bool} →
+        times_valid b s ≡ true →
+        r ≡ kept_valid (under (site_of b) (times.read old 39)) (state.read old 0) →
+        r ≡ is_state_of b old
+    unfolding is_state_of timed_valid timed_decoded
+    rest-decides ok v = rw (known, ok) v
 
-      ruled : site ≡ ruled_site (site_of b) s
-      unfolding timed_decoded site_of AcceptedIsSound
-      ruled =
-          let sound = accepted-is-sound b accepted in
-          decoded.under-times ∙ ap (under (site_of b)) (site-times (site_of b) old 39 sound.phases.1 sound.movements ruling-ok)
+  pub ruling-admitted : times_valid b s ≡ true → admitted (site_of b) (times.read old 39) ≡ true
+  unfolding timed_decoded
+  ruling-admitted ok = and_left (admitted (site_of b) s.ruling) _ ok
 
-      pub site-sound : Sound site
-      unfolding timed_decoded AcceptedIsSound
-      site-sound = subst⁻¹ Sound ruled (admitted-is-sound (site_of b) s.ruling (accepted-is-sound b accepted) ruling-ok)
+-- ── The site under times that it may have ──
 
-      pub rest-decides : {r : Bool} → r ≡ kept_valid site kept → r ≡ is_state_of b old
-      unfolding is_state_of timed_valid timed_decoded
-      rest-decides v = rw (decoded.known, ok) (v ∙ rw (ruled, decoded.rest))
+module _ (b bytes : List ℕ) (at : ℕ) (accepted : verdict_of b ≡ Accepted) (ok : admitted (site_of b) (times.read bytes at) ≡ true) where
+  pub under-same :
+      under (site_of b) (site_times (phase_count b) (movement_count b) (has_early b) bytes at) ≡ under (site_of b) (times.read bytes at)
+  unfolding site_of AcceptedIsSound
+  under-same =
+      let sound = accepted-is-sound b accepted in
+      ap (under (site_of b)) (site-times (site_of b) bytes at sound.phases.1 sound.movements ok)
 
-    -- ── A valid state ──
-
-    pub valid-site : is_state_of b old ≡ true → site ≡ ruled_site (site_of b) s
-    unfolding is_state_of timed_valid
-    valid-site valid = ruled (and_left (times_valid b s) _ (and_right (is_timed old) _ valid))
-
-    pub valid-state : kept ≡ kept_of s
-    unfolding timed_decoded
-    valid-state = decoded.rest
+  pub under-sound : Sound (under (site_of b) (times.read bytes at))
+  unfolding AcceptedIsSound
+  under-sound = admitted-is-sound (site_of b) (times.read bytes at) (accepted-is-sound b accepted) ok

@@ -1,2 +1,2 @@
 pub mod StateOf
-pub mod Decoded
+pub mod TimesValid

@@ -5,55 +5,55 @@ mod same;
 mod settings;
 mod zeros;
 
-ghost use Rattle.std.specs.Prelude.{true, ◌≡◌};
-ghost use Rattle.rules.specs.declared.answer.Verdict.TheVariants.{Accepted};
-ghost use Rattle.rules.specs.Personality.{movement_count, verdict_of};
-ghost use Rattle.read_layout.specs.LayoutOf.{LayoutOf};
+ghost use Rattle.std.specs.Prelude.{◌+◌, ◌≤◌, true, ◌≡◌, length};
+ghost use Rattle.rules.specs.Site.{site_of};
+ghost use Rattle.rules.specs.SiteTimes.{under, admitted};
+ghost use Rattle.state_times.specs.TimesLayout.{times as times_form};
 ghost use Rattle.state_timed.specs.TimedLayout.{is_timed, timed_decoded};
 ghost use Rattle.state_valid.specs.StateOf.{is_state_of};
-ghost use Rattle.state_valid.specs.Decoded.{times_valid, Decoded};
+ghost use Rattle.state_valid.specs.TimesValid.{times_valid};
 
-use read_layout::Layout;
-use rules::site::Site;
-use rules::state::KeptState;
+use read_layout::Personality;
+use settings::Limited;
+use site_rows::Fitted;
+use site_sound::SoundSite;
 use state_timed::{PRESENT, REST, RULING, WAITING};
 
 // Whether the ruling times in the bytes of a state are times that the site may have, and the waiting ones too; if none wait, whether they are 0.
-fn times_valid(personality: &[u8], layout: Layout, movements: usize, bytes: &[u8]) -> bool
-    requires { (verdict_of personality.now ≡ Accepted) × LayoutOf personality.now layout × (movements ≡ movement_count personality.now)
-        × (is_timed bytes.now ≡ true) }
+#[tactic(auto, using(crate::proofs::StateTimes::timed_size))]
+pub fn times_valid(personality: &Personality, bytes: &[u8]) -> bool
+    requires { is_timed bytes.now ≡ true }
     ensures { result ≡ times_valid personality.now (timed_decoded bytes.now) }
 {
-    if !settings::admitted(personality, layout, movements, bytes, RULING) {
-        return false;
-    }
-    if bytes[PRESENT] == 0 {
-        return settings::blank(bytes, WAITING);
-    }
-    settings::admitted(personality, layout, movements, bytes, WAITING)
+    let own = Limited::new(personality);
+    settings::admitted(&own, bytes, RULING)
+        && if bytes[PRESENT] == 0 {
+            settings::blank(bytes, WAITING)
+        } else {
+            settings::admitted(&own, bytes, WAITING)
+        }
 }
 
-// Whether bytes are a valid state of a personality. They are a state; the site is the one under the ruling times in them, and the state is
-// without its times. Both are decoded by the caller, which goes on with them.
-pub fn valid(personality: &[u8], layout: Layout, site: Site, state: KeptState, bytes: &[u8]) -> bool
-    requires { (verdict_of personality.now ≡ Accepted) × LayoutOf personality.now layout × Decoded personality.now bytes.now site state }
-    ensures { result ≡ is_state_of personality.now bytes.now }
+// The site under times in the bytes of a state, which it may have. Then it is sound.
+pub fn site_under(personality: &Personality, bytes: &[u8], at: usize) -> SoundSite
+    requires { (at + times_form.width ≤ length bytes.now) × (admitted (site_of personality.now) (times_form.read bytes.now at) ≡ true) }
+    ensures { result ≡ under (site_of personality.now) (times_form.read bytes.now at) }
 {
-    if !times_valid(personality, layout, site.size.movements as usize, bytes) {
-        return false;
+    // the proof learns from this that the personality is accepted
+    let _ = &personality.sections;
+    let fitted = Fitted::of(personality);
+    SoundSite {
+        site: site_whole::site_in(&fitted, bytes, at),
     }
-    step_valid::kept_valid(site, state)
 }
 
-// The same, if nothing of the state is needed but that.
-pub fn is_state_of(personality: &[u8], layout: Layout, bytes: &[u8]) -> bool
-    requires { (verdict_of personality.now ≡ Accepted) × LayoutOf personality.now layout }
+// Whether bytes are a valid state of a personality. A call that goes on with the site and the state makes the same tests itself.
+pub fn is_state_of(personality: &Personality, bytes: &[u8]) -> bool
     ensures { result ≡ is_state_of personality.now bytes.now }
 {
-    if !state_timed::is_timed(bytes) {
+    if !state_timed::is_timed(bytes) || !times_valid(personality, bytes) {
         return false;
     }
-    let site = site_whole::site_in(personality, layout, bytes, RULING);
-    let state = state_bytes::read(bytes, REST);
-    valid(personality, layout, site, state, bytes)
+    let site = site_under(personality, bytes, RULING);
+    step_valid::kept_valid(&site, state_bytes::read(bytes, REST))
 }
