@@ -1,4 +1,5 @@
 -- A group without mark 3 shows the same whether or not groups that stop early are closing, and a site without kind 7 has no other groups.
+use Rattle.std.specs.Prelude.{Option}
 use Prim.Native.Nat.{ℕ}
 use mathlib.Core.Bool.{Bool, true, false, ◌&&◌, or-true}
 use mathlib.Core.Logic.{⊎_elim}
@@ -6,7 +7,6 @@ use mathlib.Core.Path.{◌≡◌, refl}
 use borrow.Author.Tests.{ne_eqb}
 use Rattle.rules.specs.declared.site.Group.{Group}
 use Rattle.rules.specs.declared.site.Site.{Site}
-use Rattle.rules.specs.declared.state.Held.{Held}
 use Rattle.rules.specs.declared.state.Interval.{Interval}
 use Rattle.rules.specs.declared.state.Interval.TheVariants.{StartRed, LateStart, MinimumGreen, Running, EarlyCutOff, Yellow, AllRed}
 use Rattle.rules.specs.declared.state.State.{State}
@@ -17,7 +17,7 @@ use Rattle.rules.specs.Laws.{Sound}
 use Rattle.laws.proofs.Booleans.{decided}
 
 unclosed :
-    (interval : Interval) (closes : Bool) (previous target : Held) (group : Group) →
+    (interval : Interval) (closes : Bool) (previous target : Option ℕ) (group : Group) →
     (group.mark ≡ 3 → ⊥) →
     vehicle_colour interval false previous target group ≡ vehicle_colour interval closes previous target group
 unfolding vehicle_colour

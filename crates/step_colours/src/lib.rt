@@ -1,32 +1,29 @@
 // The colours that the signal groups show in a state, one byte for each group.
-#![tactic(auto)]
+#![tactic(auto, unfolding(rules::specs::IntervalTable::held_in, rules::specs::Colours::since_cut_off, rules::specs::Colours::closing, rules::specs::Colours::vehicle_colour, rules::specs::Colours::movement_colour, rules::specs::Colours::vehicle_shown))]
 
 ghost use Rattle.std.specs.Prelude.{◌≤◌, ◌<◌, ◌&&◌, ◌≡◌, length, if◌then◌else◌};
 ghost use Rattle.rules.specs.IntervalTable.{held_in};
 ghost use Rattle.rules.specs.Colours.{red, yellow, green, since_cut_off, closing, vehicle_colour, movement_colour, vehicle_shown, colour_of, buffer_at};
 ghost use Rattle.rules.specs.Call.{buffer_for};
-ghost use Rattle.rules.specs.declared.answer.Verdict.TheVariants.{Accepted};
-ghost use Rattle.rules.specs.Laws.{Sound};
+ghost use Rattle.rules.specs.Verdicts.{Accepted};
 ghost use Rattle.step_colours.specs.Showable.{Showable};
 ghost use Rattle.step_colours.specs.Turn.{TurnOf};
 
-use rules::site::{Group, PhaseTimes, Site, Times};
-use rules::state::{Held, Interval, Movement, Position, Stage, State};
+use rules::site::{Group, PhaseTimes, Times};
+use rules::state::{Interval, Movement, Position, Stage, State};
+use site_sound::SoundSite;
 
-// What a signal group shows, by its code.
+// What a signal group shows, by its code. The colours are associated constants and no enum: the papers name this form.
 #[derive(Clone, Copy)]
 pub struct Colour {
     pub code: u8,
 }
 
 // Whether the set has the phase held.
-fn held_in(held: Held, set: u8) -> bool
+fn held_in(held: Option<u8>, set: u8) -> bool
     ensures { result ≡ held_in held set }
 {
-    match held {
-        Held::Nothing => false,
-        Held::Phase { phase } => base_bytes::bit8(phase, set),
-    }
+    held.is_some_and(|phase| base_bytes::bit8(phase, set))
 }
 
 impl Colour {
@@ -43,12 +40,12 @@ impl Colour {
         ensures { result ≡ if stays then green else (if closes then yellow else red) }
     {
         if stays {
-            return Self::GREEN.code;
+            Self::GREEN.code
+        } else if closes {
+            Self::YELLOW.code
+        } else {
+            Self::RED.code
         }
-        if closes {
-            return Self::YELLOW.code;
-        }
-        Self::RED.code
     }
 
     // The colour of a vehicle group that has the state's phase in its set. In late start a group of mark 1 is red, except if its set has
@@ -57,8 +54,8 @@ impl Colour {
     pub fn vehicle_colour(
         interval: Interval,
         closes: bool,
-        previous: Held,
-        target: Held,
+        previous: Option<u8>,
+        target: Option<u8>,
         group: Group,
     ) -> u8
         ensures { result ≡ vehicle_colour interval closes previous target group }
@@ -66,20 +63,19 @@ impl Colour {
         match interval {
             Interval::StartRed => Self::RED.code,
             Interval::LateStart => {
-                if (group.mark == 1) & !held_in(previous, group.phases) {
+                if group.mark == 1 && !held_in(previous, group.phases) {
                     Self::RED.code
                 } else {
                     Self::GREEN.code
                 }
             }
-            Interval::MinimumGreen => Self::GREEN.code,
-            Interval::Running => Self::GREEN.code,
+            Interval::MinimumGreen | Interval::Running => Self::GREEN.code,
             Interval::EarlyCutOff => {
-                let stays = held_in(target, group.phases) | (group.mark != 3);
+                let stays = held_in(target, group.phases) || group.mark != 3;
                 Self::of_leaving(stays, closes)
             }
             Interval::Yellow => {
-                let closing = closes | (group.mark != 3);
+                let closing = closes || group.mark != 3;
                 Self::of_leaving(held_in(target, group.phases), closing)
             }
             Interval::AllRed => Self::of_leaving(held_in(target, group.phases), false),
@@ -93,8 +89,7 @@ impl Colour {
         match stage {
             Stage::Idle => Self::RED.code,
             Stage::Walk => Self::GREEN.code,
-            Stage::ClearanceOne => Self::FLASHING.code,
-            Stage::ClearanceTwo => Self::FLASHING.code,
+            Stage::ClearanceOne | Stage::ClearanceTwo => Self::FLASHING.code,
         }
     }
 }
@@ -104,10 +99,13 @@ pub fn vehicle_shown(closes: bool, position: Position, group: Group) -> u8
     ensures { result ≡ vehicle_shown closes position group }
 {
     if base_bytes::bit8(position.phase, group.phases) {
-        let interval = position.interval;
-        let previous = position.previous;
-        let target = position.target;
-        Colour::vehicle_colour(interval, closes, previous, target, group)
+        Colour::vehicle_colour(
+            position.interval,
+            closes,
+            position.previous,
+            position.target,
+            group,
+        )
     } else {
         Colour::RED.code
     }
@@ -117,31 +115,27 @@ pub fn vehicle_shown(closes: bool, position: Position, group: Group) -> u8
 fn since_cut_off(interval: Interval, times: PhaseTimes, age: u16) -> u32
     ensures { result ≡ since_cut_off interval times age }
 {
-    let before: u16 = if base_intervals::is_early(interval) {
+    let before = if base_intervals::is_early(interval) {
         0
     } else {
         times.early
     };
-    before as u32 + age as u32
+    u32::from(before) + u32::from(age)
 }
 
 // Whether Y steps from there are not over: the groups that stop early are still closing.
-fn closing(times: Times, position: Position) -> bool
-    ensures { result ≡ closing times position }
+fn closing(times: &Times, position: Position) -> bool
+    ensures { result ≡ closing times.now position }
 {
     let own = step_counts::phase_times(times, position.phase);
-    let interval = position.interval;
-    since_cut_off(interval, own, position.age) <= own.yellow as u32
+    since_cut_off(position.interval, own, position.age) <= u32::from(own.yellow)
 }
 
 // The same, but false without section 7: then no group stops early, and the answer does not matter.
-pub fn closing_there(early: bool, times: Times, position: Position) -> bool
-    ensures { result ≡ (early && closing times position) }
+pub fn closing_there(early: bool, times: &Times, position: Position) -> bool
+    ensures { result ≡ (early && closing times.now position) }
 {
-    if early {
-        return closing(times, position);
-    }
-    false
+    early && closing(times, position)
 }
 
 // One turn of the pass: writes the colour of group g and answers how many pedestrian groups there are up to it. `stage` is that of its
@@ -160,50 +154,46 @@ fn pass_group(
 {
     if group.mark == 2 {
         buffer[g] = Colour::movement_colour(stage);
-        return k + 1;
+        k + 1
+    } else {
+        buffer[g] = vehicle_shown(closes, position, group);
+        k
     }
-    buffer[g] = vehicle_shown(closes, position, group);
-    k
 }
 
-// Writes the colours of the first `count` groups in one pass. It takes only the parts that it needs, and not the site and the state: a
-// struct parameter with an array that is read by a running index is copied whole.
+// Writes the colours of the groups in one pass. Of the state it takes only the parts that it needs: a struct parameter with an array that is
+// read by a running index is copied whole.
 fn buffer_at(
-    groups: [Group; 32],
-    count: usize,
+    groups: &[Group],
     closes: bool,
     position: Position,
     movements: [Movement; 8],
     buffer: &mut [u8],
 )
-    requires { Showable groups count (length buffer.old) }
-    ensures { buffer.new ≡ buffer_at (colour_of groups closes position movements) buffer.old count }
+    requires { Showable groups.now (length buffer.old) }
+    ensures { buffer.new ≡ buffer_at (colour_of groups.now closes position movements) buffer.old (length groups.now) }
 {
-    let mut k: usize = 0;
-    let mut g: usize = 0;
-    while g < count {
-        let group = groups[g];
+    let mut k = 0;
+    for (g, group) in groups.iter().enumerate() {
         let stage = if group.mark == 2 {
-            let own = movements[k];
-            own.stage
+            movements[k].stage
         } else {
             Stage::Idle
         };
-        k = pass_group(group, stage, closes, position, g, k, buffer);
-        g += 1;
+        k = pass_group(*group, stage, closes, position, g, k, buffer);
     }
 }
 
 // Writes the colours of all groups to the start of the buffer. The bytes past them stay as they are.
-pub fn buffer_for(site: Site, state: State, buffer: &mut [u8])
-    requires { Sound site × (site.size.groups ≤ length buffer.old) }
-    ensures { buffer.new ≡ buffer_for Accepted site state buffer.old }
+pub fn buffer_for(site: &SoundSite, state: State, buffer: &mut [u8])
+    requires { site.now.size.groups ≤ length buffer.old }
+    ensures { buffer.new ≡ buffer_for Accepted site.now state buffer.old }
 {
-    let groups = site.groups;
-    let count = site.size.groups as usize;
-    let position = state.position;
-    let movements = state.movements;
-    let times = site.times;
-    let closes = closing_there(site.early, times, position);
-    buffer_at(groups, count, closes, position, movements, buffer);
+    buffer_at(
+        site.groups(),
+        closing_there(site.site.early, &site.site.times, state.position),
+        state.position,
+        state.movements,
+        buffer,
+    );
 }

@@ -1,5 +1,5 @@
 // Part 3 of a step: the gap count and the maximum count, and the settings of the phase that they use.
-#![tactic(auto)]
+#![tactic(auto, unfolding(rules::specs::Site::phase_times, rules::specs::Counts::gap_after, rules::specs::Counts::maximum_after, rules::specs::Counts::counts_after))]
 
 ghost use Rattle.std.specs.Prelude.{◌≡◌};
 ghost use Rattle.rules.specs.Site.{phase_times};
@@ -9,13 +9,11 @@ use rules::site::{PhaseTimes, Times};
 use rules::state::{Counts, Interval};
 
 // The settings of a phase. They are all 0 for a phase number above 6.
-pub fn phase_times(times: Times, phase: u8) -> PhaseTimes
-    ensures { result ≡ phase_times times phase }
+pub fn phase_times(times: &Times, phase: u8) -> PhaseTimes
+    ensures { result ≡ phase_times times.now phase }
 {
-    let settings = times.phases;
-    let p = phase as usize;
-    if p < 7 {
-        return settings[p];
+    if let Some(own) = times.phases.get(usize::from(phase)) {
+        return *own;
     }
     PhaseTimes {
         late: 0,
@@ -32,32 +30,24 @@ pub fn phase_times(times: Times, phase: u8) -> PhaseTimes
 fn gap_after(interval: Interval, times: PhaseTimes, extended: bool, gap: u16) -> u16
     ensures { result ≡ gap_after interval times extended gap }
 {
-    if base_intervals::is_green(interval) {
-        if extended {
-            return times.gap;
-        }
-        if 0 < gap {
-            return gap - 1;
-        }
-        return 0;
+    if !base_intervals::is_green(interval) {
+        gap
+    } else if extended {
+        times.gap
+    } else {
+        gap.saturating_sub(1)
     }
-    gap
 }
 
 // The maximum count after part 3. In running it starts when another phase is demanded, and then counts every step up to X.
 fn maximum_after(interval: Interval, times: PhaseTimes, another: bool, maximum: u16) -> u16
     ensures { result ≡ maximum_after interval times another maximum }
 {
-    if base_intervals::is_running(interval) {
-        if another | (0 < maximum) {
-            if maximum < times.maximum {
-                return maximum + 1;
-            }
-            return times.maximum;
-        }
-        return 0;
+    if base_intervals::is_running(interval) && (another || 0 < maximum) {
+        maximum.saturating_add(1).min(times.maximum)
+    } else {
+        maximum
     }
-    maximum
 }
 
 // Both counts after part 3, by the interval and the settings of the phase.

@@ -1,12 +1,15 @@
 -- Part 1 put together: what its calls give from the sets of phases of which detectors are occupied is what the rules say, set by set.
+use Rattle.std.specs.Prelude.{Option}
 use Prim.Native.Nat.{ℕ, ◌<◌}
 use mathlib.Core.Bool.{Bool, not, ◌&&◌, ◌||◌}
 use mathlib.Core.Path.{◌≡◌, sym, ap, ◌∙◌}
 use native.Mathlib.Omega.{arith}
 use lib.Bits.{bit_or}
+use lib.ListN.{length, take}
+use mathlib.Core.List.{List}
+use Rattle.rules.specs.declared.site.Detector.{Detector}
 use Rattle.rules.specs.declared.site.Site.{Site}
 use Rattle.rules.specs.declared.state.Demands.{Demands}
-use Rattle.rules.specs.declared.state.Held.{Held}
 use Rattle.rules.specs.declared.state.KeptState.{KeptState}
 use Rattle.laws.specs.Bytes.{bit}
 use Rattle.laws.specs.Folds.{set_of}
@@ -19,13 +22,16 @@ use Rattle.laws.proofs.ByteSets.{bit-set, set_same, self-told, union-told}
 use Rattle.laws.proofs.Booleans.{and-false-right}
 use Rattle.laws.proofs.Folds.{any-past}
 use Rattle.step_demands_detectors.specs.declared.Sensed.{Sensed}
+use Rattle.site_sound.proofs.Rows.{detected-taken}
 use Rattle.step_demands_detectors.specs.Sensed.{SensedBy}
 use Rattle.step_demands.specs.Registered.{RegisteredBy}
 use Rattle.step_demands.proofs.Sites.{ring-same}
 
 module _
-    (site : Site) (s : KeptState) (inputs : ℕ) (sensed : Sensed) (green to_lock to_call : ℕ)
-    (scanned : SensedBy site.detectors site.size.detectors inputs s.core.position.phase sensed)
+    (site : Site) (s : KeptState) (inputs : ℕ) (own : List Detector) (sensed : Sensed) (green to_lock to_call : ℕ)
+    (row : own ≡ take site.size.detectors site.detectors)
+    (count : length own ≡ site.size.detectors)
+    (scanned : SensedBy own inputs s.core.position.phase sensed)
     (greens : green ≡ set_of (in_green s.core.position))
     (locks : to_lock ≡ set_of (λ p. bit p sensed.locks && not (bit p green)))
     (called : to_call ≡ set_of (λ p. bit p sensed.calls && not (bit p green)))
@@ -33,10 +39,12 @@ module _
     -- of a set of phases those that may be demanded
     outside :
         (kind : ℕ → Bool) (set : ℕ) →
-        ((p : ℕ) → p < 8 → bit p set ≡ detected_among site.detectors site.size.detectors kind inputs p) →
+        ((p : ℕ) → p < 8 → bit p set ≡ detected_among own (length own) kind inputs p) →
         set_of (λ p. bit p set && not (bit p green)) ≡ set_of (λ p. detected kind site inputs p && not (in_green s.core.position p))
     unfolding detected
-    outside kind set told = set_same _ _ (λ p l. rw (told p l, greens, bit-set (in_green s.core.position) p l))
+    outside kind set told =
+        set_same _ _
+        (λ p l. rw (told p l, detected-taken site.detectors site.size.detectors row count kind inputs p, greens, bit-set (in_green s.core.position) p l))
 
     lock-told : to_lock ≡ set_of (registers_lock site s.core inputs)
     unfolding registers_lock
@@ -47,7 +55,7 @@ module _
     call-told = called ∙ outside calling sensed.calls scanned.calls
 
     module _
-        (buttons pressing : ℕ) (next : Held)
+        (buttons pressing : ℕ) (next : Option ℕ)
         (pressed : buttons ≡ buttons_after s.core.demands.buttons s.core.movements inputs)
         (presses : pressing ≡ set_of (press_keeps s.core.movements site.crossings 8 inputs))
         (searched :
@@ -95,7 +103,8 @@ module _
 
         extended-told : sensed.extended ≡ detected extending site inputs s.core.position.phase
         unfolding detected
-        extended-told = scanned.extended
+        extended-told =
+            scanned.extended ∙ detected-taken site.detectors site.size.detectors row count extending inputs s.core.position.phase
 
         pub asked-told : RegisteredBy site s inputs (record { demands = standing; kept = kept; next = next; extended = sensed.extended })
         asked-told = record { demands = standing-told; kept = kept-told; next = next-told; extended = extended-told }

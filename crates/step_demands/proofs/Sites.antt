@@ -6,6 +6,9 @@ use mathlib.Core.Path.{◌≡◌}
 use native.Mathlib.Omega.{arith}
 use borrow.Author.Tests.{ltb-true}
 use lib.Dec.{ltb}
+use lib.ListN.{length, take}
+use mathlib.Core.List.{List}
+use Rattle.rules.specs.declared.site.Detector.{Detector}
 use Rattle.rules.specs.declared.site.Site.{Site}
 use Rattle.rules.specs.Personality.{known_mode}
 use Rattle.rules.specs.Site.{detector_of, ring}
@@ -15,23 +18,32 @@ use Rattle.laws.proofs.Booleans.{and_left, and_right}
 use Rattle.proof_ring.proofs.RunningOrder.{ring_of}
 use Rattle.proof_ring.proofs.Ring.{found-same}
 use Rattle.proof_ring.proofs.Turns.{turn}
+use Rattle.site_sound.proofs.Rows.{detector-taken}
 use Rattle.step_demands_detectors.specs.Sensed.{Tabled}
 
 -- the detectors of an accepted site are within the table
-pub tabled : (site : Site) → Sound site → Tabled site.detectors site.size.detectors
+pub tabled :
+    (site : Site) → Sound site →
+    (own : List Detector) → own ≡ take site.size.detectors site.detectors → length own ≡ site.size.detectors →
+    Tabled own
 unfolding known_mode
-tabled site sound =
+tabled site sound own row count =
+    let n = site.size.detectors in
     record {
-      room = sound.detectors;
-      phase = λ d l. omega (arith, sound.detector_phase d l, sound.phases.1);
-      mode = λ d l.
+      room = omega (arith, count, sound.detectors);
+      phase = λ d m.
+          let l : d < n = rw count at m in
+          rw (row, detector-taken site.detectors n d l) (omega (arith, sound.detector_phase d l, sound.phases.1));
+      mode = λ d m.
+          let l : d < n = rw count at m in
           let mode = (detector_of site.detectors d).mode in
           let known = sound.detector_mode d l in
-          omega (
+          rw (row, detector-taken site.detectors n d l)
+          (omega (
             arith,
             ltb-true (mode % 4) 3 (and_left (ltb (mode % 4) 3) (ltb (mode / 4) 2) known),
             ltb-true (mode / 4) 2 (and_right (ltb (mode % 4) 3) (ltb (mode / 4) 2) known),
-          );
+          ));
     }
 
 module _ (site : Site) (sound : Sound site) where

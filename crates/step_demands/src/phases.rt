@@ -11,9 +11,9 @@ pub fn in_green(position: Position) -> u8
     requires { position.phase < 8 }
     ensures { result ≡ set_of (in_green position) }
 {
-    let interval = position.interval;
-    if base_intervals::is_green(interval) {
-        return sets::with(0, position.phase);
+    if base_intervals::is_green(position.interval) {
+        sets::with(0, position.phase)
+    } else {
+        0
     }
-    0
 }

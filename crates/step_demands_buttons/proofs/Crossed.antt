@@ -15,6 +15,10 @@ use Rattle.laws.proofs.JoinedBits.{bit-or}
 use Rattle.laws.proofs.LowestBit.{lowest, others, Left, left-all, taken_none, taken-all, next-within, left-more, next-untaken, counted, counted-other, counted-own, counted_same}
 use Rattle.laws.proofs.ByteSets.{set_told}
 
+-- no movement is passed over
+abbrev pub every : ℕ → Bool
+every k = true
+
 -- the set has the phases of the movements counted, and the bits of the rest are those of the word's n that are left
 pub record Crossed (crossings : List ℕ) (word n : ℕ) (passes : ℕ → Bool) (rest set : ℕ) : Type 0 where
   pub left : Left word n rest

@@ -24,25 +24,19 @@ fn dropped(stage: Stage) -> bool
 
 // Registers the pressed buttons. A press demands its movement, unless the movement is in walk, and adds its phase to the kept set. Button k
 // is input bit 48 + k. Each turn of the loop takes the lowest button that is left.
-pub fn press(buttons: u8, movements: [Movement; 8], crossings: [u8; 8], inputs: u64) -> Pressed
-    ensures { (result.buttons ≡ buttons_after buttons movements inputs) × (result.phases ≡ set_of (press_keeps movements crossings 8 inputs)) }
+pub fn press(buttons: u8, movements: [Movement; 8], crossings: &[u8; 8], inputs: u64) -> Pressed
+    ensures { (result.buttons ≡ buttons_after buttons movements inputs) × (result.phases ≡ set_of (press_keeps movements crossings.now 8 inputs)) }
 {
-    let mut out = buttons;
-    let mut phases: u8 = 0;
+    let mut out = Pressed { buttons, phases: 0 };
     let mut rest = (inputs >> 48) % 256;
     while rest != 0 {
-        let k = u64::trailing_zeros(rest) as u8;
-        let i = k as usize;
-        let movement = movements[i];
-        let stage = movement.stage;
-        if !dropped(stage) {
-            out = sets::with(out, k);
-            phases = phases | crossings[i];
+        let k = rest.trailing_zeros() as u8;
+        let i = usize::from(k);
+        if !dropped(movements[i].stage) {
+            out.buttons = sets::with(out.buttons, k);
+            out.phases |= crossings[i];
         }
-        rest = rest & (rest - 1);
+        rest &= rest - 1;
     }
-    Pressed {
-        buttons: out,
-        phases,
-    }
+    out
 }

@@ -1,29 +1,28 @@
 // The phases that the demanded movements demand, and those that stand by them or by a lock.
-ghost use Rattle.std.specs.Prelude.{◌≤◌, ◌≡◌};
+ghost use Rattle.std.specs.Prelude.{◌≤◌, ◌≡◌, length};
 ghost use Rattle.laws.specs.Folds.{set_of};
 ghost use Rattle.rules.specs.Demands.{movement_demands, stands as stands_by};
 
 use rules::state::Demands;
 
-// The set of the phases of the demanded movements among the first `count`. Each turn takes the lowest movement that is left.
-pub fn movement_demands(crossings: [u8; 8], buttons: u8, count: u8) -> u8
-    requires { count ≤ 8 }
-    ensures { result ≡ set_of (movement_demands crossings count buttons) }
+// The set of the phases of the demanded movements among those whose phase sets these are. Each turn takes the lowest movement that is left.
+pub fn movement_demands(crossings: &[u8], buttons: u8) -> u8
+    requires { length crossings.now ≤ 8 }
+    ensures { result ≡ set_of (movement_demands crossings.now (length crossings.now) buttons) }
 {
-    let mut rest = (buttons as u64) % (1u64 << count);
-    let mut set: u8 = 0;
+    let mut rest = u64::from(buttons) % (1u64 << crossings.len());
+    let mut set = 0u8;
     while rest != 0 {
-        let k = u64::trailing_zeros(rest) as usize;
-        set = set | crossings[k];
-        rest = rest & (rest - 1);
+        set |= crossings[rest.trailing_zeros() as usize];
+        rest &= rest - 1;
     }
     set
 }
 
 // The phases that are demanded by a lock or by a demanded movement, as a set.
-pub fn stands(crossings: [u8; 8], count: u8, demands: Demands) -> u8
-    requires { count ≤ 8 }
-    ensures { result ≡ set_of (stands_by crossings count demands) }
+pub fn stands(crossings: &[u8], demands: Demands) -> u8
+    requires { length crossings.now ≤ 8 }
+    ensures { result ≡ set_of (stands_by crossings.now (length crossings.now) demands) }
 {
-    demands.locks | movement_demands(crossings, demands.buttons, count)
+    demands.locks | movement_demands(crossings, demands.buttons)
 }

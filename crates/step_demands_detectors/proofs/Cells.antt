@@ -9,6 +9,7 @@ use native.Mathlib.Omega.{arith}
 use borrow.Author.Tests.{eqb-true, eqb-false, eq-eqb, ne_eqb}
 use lib.Bits.{bit_or}
 use lib.Dec.{eqb}
+use lib.ListN.{length}
 use Rattle.rules.specs.declared.site.Detector.{Detector}
 use Rattle.laws.specs.Bytes.{bit}
 use Rattle.laws.specs.Folds.{any_of}
@@ -51,7 +52,10 @@ cell-more set phase mode m p room few l =
 
 -- ── The pass ──
 
-module _ (detectors : List Detector) (n inputs : ℕ) where
+module _ (detectors : List Detector) (inputs : ℕ) where
+  abbrev n : ℕ
+  n = length detectors
+
   -- the inputs of the detectors
   abbrev word : ℕ
   word = firsts n inputs
@@ -67,7 +71,7 @@ module _ (detectors : List Detector) (n inputs : ℕ) where
         p < 8 →
         bit (8 * m + p) set ≡ any_of (λ d. (taken word rest d && eqb (at d).phase p) && eqb (at d).mode m) n
 
-  module _ (tabled : Tabled detectors n) where
+  module _ (tabled : Tabled detectors) where
     pub none-entered : Entered word 0
     none-entered =
         record {
@@ -81,6 +85,10 @@ module _ (detectors : List Detector) (n inputs : ℕ) where
 
       pub turn-within : lowest rest < n
       turn-within = next-within entered.left some few
+
+      -- the cell of a turn is within the table
+      pub cell-within : 8 * (at (lowest rest)).mode + (at (lowest rest)).phase < 64
+      cell-within = omega (arith, tabled.phase (lowest rest) turn-within, tabled.mode (lowest rest) turn-within)
 
       pub one-entered : Entered (others rest) (bit_or set (1 * 2 ^ (8 * (at (lowest rest)).mode + (at (lowest rest)).phase) % 2 ^ 64))
       one-entered =

@@ -7,6 +7,7 @@ use mathlib.Core.Path.{◌≡◌, refl, sym, ◌∙◌}
 use native.Mathlib.Omega.{arith}
 use lib.Bits.{bit_or}
 use lib.Dec.{eqb}
+use lib.ListN.{length}
 use Rattle.rules.specs.declared.site.Detector.{Detector}
 use Rattle.laws.specs.Bytes.{bit}
 use Rattle.laws.specs.Folds.{all_of}
@@ -41,16 +42,16 @@ extending-modes = tried (λ m. (eqb m 4 || eqb m 5) || eqb m 6) extending refl
 -- ── The rows of the table ──
 
 -- the set has the phases of the occupied detectors with a mode of the kind
-pub record Of (detectors : List Detector) (n inputs : ℕ) (kind : ℕ → Bool) (set : ℕ) : Type 0 where
-  pub told : (p : ℕ) → p < 8 → bit p set ≡ detected_among detectors n kind inputs p
+pub record Of (detectors : List Detector) (inputs : ℕ) (kind : ℕ → Bool) (set : ℕ) : Type 0 where
+  pub told : (p : ℕ) → p < 8 → bit p set ≡ detected_among detectors (length detectors) kind inputs p
 
 -- detector d is occupied and is of phase p
 abbrev has : List Detector → ℕ → ℕ → ℕ → Bool
 has detectors inputs p d = occupied inputs d && eqb (detector_of detectors d).phase p
 
-module _ {detectors : List Detector} {n inputs : ℕ} {f g : ℕ → Bool} where
+module _ {detectors : List Detector} {inputs : ℕ} {f g : ℕ → Bool} where
   pub of_either :
-      {a b : ℕ} → Of detectors n inputs f a → Of detectors n inputs g b → Of detectors n inputs (λ m. f m || g m) (bit_or a b)
+      {a b : ℕ} → Of detectors inputs f a → Of detectors inputs g b → Of detectors inputs (λ m. f m || g m) (bit_or a b)
   unfolding detected_among
   of_either {a} {b} left right =
       record {
@@ -58,19 +59,19 @@ module _ {detectors : List Detector} {n inputs : ℕ} {f g : ℕ → Bool} where
             let has-f : ℕ → Bool = λ d. has detectors inputs p d && f (detector_of detectors d).mode in
             let has-g : ℕ → Bool = λ d. has detectors inputs p d && g (detector_of detectors d).mode in
             bit-or p a b
-            ∙ rw (left.told p l, right.told p l) (any-join has-f has-g n)
-            ∙ any_same _ _ n
+            ∙ rw (left.told p l, right.told p l) (any-join has-f has-g (length detectors))
+            ∙ any_same _ _ (length detectors)
             (λ d k. sym (and-or_distrib_left (has detectors inputs p d) (f (detector_of detectors d).mode) (g (detector_of detectors d).mode)));
       }
 
   pub of-kind :
       {a : ℕ} →
-      Tabled detectors n →
+      Tabled detectors →
       Same f g →
-      Of detectors n inputs f a →
+      Of detectors inputs f a →
       (p : ℕ) →
       p < 8 →
-      bit p a ≡ detected_among detectors n g inputs p
+      bit p a ≡ detected_among detectors (length detectors) g inputs p
   unfolding detected_among
   of-kind known agree own p l =
-      own.told p l ∙ any_same _ _ n (λ d k. rw (agree.told (detector_of detectors d).mode (known.mode d k)))
+      own.told p l ∙ any_same _ _ (length detectors) (λ d k. rw (agree.told (detector_of detectors d).mode (known.mode d k)))

@@ -1,7 +1,7 @@
 // One pass over the occupied detectors.
 #![tactic(auto)]
 
-ghost use Rattle.std.specs.Prelude.{◌≡◌, ℕ, ◌+◌, ◌*◌, ◌<◌, eqb};
+ghost use Rattle.std.specs.Prelude.{◌≡◌, ℕ, ◌+◌, ◌*◌, ◌<◌, eqb, length};
 ghost use Rattle.laws.specs.Bytes.{bit};
 ghost use Rattle.rules.specs.Demands.{detected_among};
 ghost use Rattle.step_demands_detectors.specs.Sensed.{Tabled, SensedBy};
@@ -17,19 +17,18 @@ pub struct Sensed {
     pub extended: bool,
 }
 
-// The occupied detectors among the first `count`, as a table of modes and phases: bit 8 * m + p is set if one of phase p has mode m. Each
-// turn takes the lowest input that is left.
-fn table(detectors: [Detector; 48], count: u8, inputs: u64) -> u64
-    requires { Tabled detectors count }
-    ensures { (m p : ℕ) → p < 8 → bit (8 * m + p) result ≡ detected_among detectors count (λ mode. eqb mode m) inputs p }
+// The occupied detectors, as a table of modes and phases: bit 8 * m + p is set if one of phase p has mode m. Each turn takes the lowest input
+// that is left.
+fn table(detectors: &[Detector], inputs: u64) -> u64
+    requires { Tabled detectors.now }
+    ensures { (m p : ℕ) → p < 8 → bit (8 * m + p) result ≡ detected_among detectors.now (length detectors.now) (λ mode. eqb mode m) inputs p }
 {
-    let mut rest = inputs % (1u64 << count);
-    let mut set: u64 = 0;
+    let mut rest = inputs % (1u64 << detectors.len());
+    let mut set = 0u64;
     while rest != 0 {
-        let d = u64::trailing_zeros(rest) as usize;
-        let detector = detectors[d];
-        set = set | (1u64 << (8 * detector.mode + detector.phase));
-        rest = rest & (rest - 1);
+        let detector = detectors[rest.trailing_zeros() as usize];
+        set |= 1u64 << (8 * detector.mode + detector.phase);
+        rest &= rest - 1;
     }
     set
 }
@@ -42,12 +41,12 @@ fn with_mode(set: u64, mode: u8) -> u8
     ((set >> (8 * mode)) % 256) as u8
 }
 
-// What the first `count` detectors ask for, by mode: 1 calls without lock, 2 calls with lock; plus 4 if it extends.
-pub fn sense(detectors: [Detector; 48], count: u8, inputs: u64, phase: u8) -> Sensed
-    requires { Tabled detectors count × (phase < 8) }
-    ensures { SensedBy detectors count inputs phase result }
+// What the detectors ask for, by mode: 1 calls without lock, 2 calls with lock; plus 4 if it extends.
+pub fn sense(detectors: &[Detector], inputs: u64, phase: u8) -> Sensed
+    requires { Tabled detectors.now × (phase < 8) }
+    ensures { SensedBy detectors.now inputs phase result }
 {
-    let set = table(detectors, count, inputs);
+    let set = table(detectors, inputs);
     let extending = with_mode(set, 4) | with_mode(set, 5) | with_mode(set, 6);
     Sensed {
         locks: with_mode(set, 2) | with_mode(set, 6),

@@ -1,1 +1,1 @@
-pub mod RingPlaces
+pub mod Ring

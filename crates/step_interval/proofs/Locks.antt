@@ -11,13 +11,13 @@ use Rattle.rules.specs.Interval.{clears_lock, locks_left}
 use Rattle.laws.proofs.ByteSets.{set_told}
 
 module _ (ended : Bool) (now : Position) (locks : ℕ) where
-  pub lock-cleared :
+  pub lock_cleared :
       (ended && is_minimum_green now.interval) ≡ true → set_of (λ q. bit q locks && not (eqb q now.phase)) ≡ locks_left ended now locks
   unfolding locks_left clears_lock
-  lock-cleared entered = rw entered
+  lock_cleared entered = rw entered
 
   -- without such an entry the byte is the set of its own bits
-  pub locks-stand : (ended && is_minimum_green now.interval) ≡ false → locks < 256 → locks ≡ locks_left ended now locks
+  pub locks_stand : (ended && is_minimum_green now.interval) ≡ false → locks < 256 → locks ≡ locks_left ended now locks
   unfolding locks_left clears_lock
-  locks-stand e small =
+  locks_stand e small =
       set_told (λ q. bit q locks && not (clears_lock ended now q)) locks small (λ q l. rw e (sym (and-true (bit q locks))))

@@ -10,64 +10,68 @@ use rules::state::{Counts, Interval, Position};
 fn counts_leaving(interval: Interval, before: Counts) -> Counts
     ensures { result ≡ counts_leaving interval before }
 {
-    if base_intervals::is_leaving(interval) & base_intervals::is_before_start(interval) {
-        return Counts { gap: 0, maximum: 0 };
+    if base_intervals::is_leaving(interval) && base_intervals::is_before_start(interval) {
+        Counts { gap: 0, maximum: 0 }
+    } else {
+        before
     }
-    before
 }
 
 // The counts when an interval begins: minimum green loads the gap count with G, running clears the maximum count.
 fn counts_entering(interval: Interval, times: PhaseTimes, before: Counts) -> Counts
     ensures { result ≡ counts_entering interval times before }
 {
-    let gap = if base_intervals::is_minimum_green(interval) {
-        times.gap
-    } else {
-        before.gap
-    };
-    let maximum = if base_intervals::is_running(interval) {
-        0
-    } else {
-        before.maximum
-    };
-    Counts { gap, maximum }
+    Counts {
+        gap: if base_intervals::is_minimum_green(interval) {
+            times.gap
+        } else {
+            before.gap
+        },
+        maximum: if base_intervals::is_running(interval) {
+            0
+        } else {
+            before.maximum
+        },
+    }
 }
 
 // The counts after a change of interval, by the interval that ends and the one that begins.
 pub fn counts_changed(
     ended: bool,
-    times: Times,
+    times: &Times,
     old: Position,
     now: Position,
     counted: Counts,
 ) -> Counts
-    ensures { result ≡ counts_changed ended times old now counted }
+    ensures { result ≡ counts_changed ended times.now old now counted }
 {
-    let before = old.interval;
-    let after = now.interval;
     if ended {
-        let left = counts_leaving(before, counted);
-        return counts_entering(after, step_counts::phase_times(times, now.phase), left);
+        counts_entering(
+            now.interval,
+            step_counts::phase_times(times, now.phase),
+            counts_leaving(old.interval, counted),
+        )
+    } else {
+        counted
     }
-    counted
 }
 
 // The locks after part 4: when minimum green begins, the lock of the phase is cleared.
+#[tactic(auto, using(crate::proofs::Locks::locks_stand, crate::proofs::Locks::lock_cleared))]
 pub fn locks_left(ended: bool, now: Position, locks: u8) -> u8
     requires { now.phase < 8 }
     ensures { result ≡ locks_left ended now locks }
 {
-    let interval = now.interval;
-    if ended & base_intervals::is_minimum_green(interval) {
-        return sets::without(locks, now.phase);
+    if ended && base_intervals::is_minimum_green(now.interval) {
+        sets::without(locks, now.phase)
+    } else {
+        locks
     }
-    locks
 }
 
 // Whether a phase starts: start red or all-red has ended.
 pub fn starts(ended: bool, old: Position) -> bool
     ensures { result ≡ starts_at ended old }
 {
-    let interval = old.interval;
-    ended & base_intervals::is_before_start(interval)
+    ended && base_intervals::is_before_start(old.interval)
 }

@@ -1,4 +1,5 @@
 -- The kept set after parts 4 and 5, from the demands that are gone and those that are left; and the whole step, by what its parts give.
+use Rattle.std.specs.Prelude.{Option, Some, None, is_some}
 use Prim.Native.Nat.{ℕ, ◌≤◌, ◌<◌}
 use mathlib.Core.Bool.{Bool, true, false, not, ◌&&◌, ◌||◌, and-true}
 use mathlib.Core.List.{List}
@@ -89,6 +90,12 @@ module _ (crossings : List ℕ) (count : ℕ) (few : count ≤ 8) (old new : Dem
         (given-up (bit p kept) (cleared crossings count old new p) (stands crossings count new p)))
 
 -- ── The step ──
+
+-- another phase is demanded
+pub held-some : (next : Option ℕ) → is_some next ≡ is_held next
+unfolding is_held
+held-some None = refl
+held-some (Some p) = refl
 
 module _ (site : Site) (s : KeptState) (inputs : ℕ) where
   -- the whole step, by what each of its parts gives

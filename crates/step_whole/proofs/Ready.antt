@@ -1,5 +1,6 @@
 -- What the parts of a step ask of a site and a state holds in a valid state of an accepted site: the phase exists before and after part 4,
 -- and the records past the movements that the site has are idle.
+use Rattle.std.specs.Prelude.{Option}
 use Prim.Native.Nat.{ℕ, ◌<◌}
 use mathlib.Core.Bool.{Bool, true, false}
 use mathlib.Core.Logic.{⊎_elim}
@@ -8,7 +9,6 @@ use native.Mathlib.Omega.{arith}
 use lib.ListN.{get_or}
 use Rattle.rules.specs.declared.site.Site.{Site}
 use Rattle.rules.specs.declared.site.Times.{Times}
-use Rattle.rules.specs.declared.state.Held.{Held}
 use Rattle.rules.specs.declared.state.Interval.{Interval}
 use Rattle.rules.specs.declared.state.Interval.TheVariants.{StartRed, LateStart, MinimumGreen, Running, EarlyCutOff, Yellow, AllRed}
 use Rattle.rules.specs.declared.state.KeptState.{KeptState}
@@ -25,7 +25,7 @@ use Rattle.step_movements.specs.IdlePast.{IdlePast}
 
 -- a change of interval stays in its phase, or goes to the target where the phase is left
 followed-below :
-    (n : ℕ) (interval : Interval) (times : Times) (next : Held) (position : Position) →
+    (n : ℕ) (interval : Interval) (times : Times) (next : Option ℕ) (position : Position) →
     position.phase < n →
     (is_leaving interval ≡ true → phase_held position.target < n) →
     (following interval times next position).phase < n
@@ -46,7 +46,7 @@ module _ (site : Site) (s : KeptState) (ready : Sound site × (kept_valid site s
   pub on : s.core.position.phase < site.size.phases
   on = known.phase
 
-  pub now_on : (ended : Bool) (next : Held) → (position_after ended site.times next s.core.position).phase < 8
+  pub now_on : (ended : Bool) (next : Option ℕ) → (position_after ended site.times next s.core.position).phase < 8
   unfolding position_after staying
   now_on true next =
       let position = s.core.position in

@@ -2,41 +2,41 @@
 #![tactic(auto)]
 
 ghost use Rattle.std.specs.Prelude.{true, ◌≡◌};
-ghost use Rattle.rules.specs.Laws.{Sound};
 ghost use Rattle.rules.specs.Kept.{kept_valid, kept_stepped};
 
-use rules::site::Site;
 use rules::state::{Demands, KeptState, State};
+use site_sound::SoundSite;
 use step_interval::{changes, ending, following};
 
 mod kept;
 
 // The state after a step from a valid state of an accepted site.
-pub fn kept_stepped(site: Site, state: KeptState, inputs: u64) -> KeptState
-    requires { Sound site × (kept_valid site state ≡ true) }
-    ensures { result ≡ kept_stepped site state inputs }
+pub fn kept_stepped(site: &SoundSite, state: KeptState, inputs: u64) -> KeptState
+    requires { kept_valid site.now state ≡ true }
+    ensures { result ≡ kept_stepped site.now state inputs }
 {
     let core = state.core;
     let old = core.position;
-    let interval = old.interval;
-    let times = site.times;
+    let times = &site.site.times;
     let own = step_counts::phase_times(times, old.phase);
-    let count = site.size.movements;
+    let count = site.site.size.movements;
     // 1. demands
     let asked = step_demands::register(site, state, inputs);
-    let demands = asked.demands;
-    let next = asked.next;
-    let another = base_intervals::is_held(next);
+    let another = asked.next.is_some();
     // 2. movements
-    let counts = core.counts;
-    let may_end = step_movements::walk_may_end(interval, own, another, counts);
-    let stages = core.movements;
-    let moved = step_movements::movements_after(times, may_end, stages, count);
+    let may_end = step_movements::walk_may_end(old.interval, own, another, core.counts);
+    let moved = step_movements::movements_after(times, may_end, core.movements, count);
     // 3. counts
-    let counted = step_counts::counts_after(interval, own, asked.extended, another, counts);
+    let counted = step_counts::counts_after(
+        old.interval,
+        own,
+        asked.extended,
+        another,
+        core.counts,
+    );
     // 4. interval
     let ended = ending::ends(
-        interval,
+        old.interval,
         times.start,
         own,
         old.age,
@@ -45,23 +45,29 @@ pub fn kept_stepped(site: Site, state: KeptState, inputs: u64) -> KeptState
         count,
         counted,
     );
-    let now = following::position_after(ended, times, next, old);
+    let now = following::position_after(ended, times, asked.next, old);
     // 5. walks
-    let crossings = site.crossings;
-    let starts = changes::starts(ended, old);
-    let walked = step_walks::begun_by(crossings, starts, another, now, demands.buttons, moved);
-    let movements = walked.movements;
-    let standing = Demands {
-        locks: changes::locks_left(ended, now, demands.locks),
+    let walked = step_walks::begun_by(
+        &site.site.crossings,
+        changes::starts(ended, old),
+        another,
+        now,
+        asked.demands.buttons,
+        moved,
+    );
+    let demands = Demands {
+        locks: changes::locks_left(ended, now, asked.demands.locks),
         buttons: walked.buttons,
     };
+    // A name of its own: the borrow checker does not cover an array that is moved out of a field straight into a struct literal.
+    let movements = walked.movements;
     KeptState {
         core: State {
             position: now,
             counts: changes::counts_changed(ended, times, old, now, counted),
-            demands: standing,
-            movements: movements,
+            demands,
+            movements,
         },
-        kept: kept::kept_left(crossings, count, demands, standing, asked.kept),
+        kept: kept::kept_left(site.crossings(), asked.demands, demands, asked.kept),
     }
 }

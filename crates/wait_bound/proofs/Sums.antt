@@ -14,14 +14,17 @@ use Rattle.rules.specs.Site.{no_phase_times, phase_times, walk_times}
 use Rattle.rules.specs.WaitBound.{phase_share, longest_walk, longest_clearance}
 use Rattle.rules.specs.Laws.{SoundTimes}
 use Rattle.rules.proofs.Settings.{walk-told, wait-two-bytes}
+use Rattle.wait_bound_movements.specs.declared.Longest.{Longest}
+use Rattle.wait_bound_movements.specs.Longest.{no_longest}
 use Rattle.proof_acceptance.proofs.WaitBound.{bound_by, wait-within}
 use Rattle.laws.proofs.Sums.{sum_same, sum-part}
 
 -- ── The shares ──
 
--- the share of phase p, whose A and C stand at p and 8 + p
-abbrev pub share_at : List PhaseTimes → List ℕ → ℕ → ℕ
-share_at owns longest p = phase_share (get_or owns p no_phase_times) (get_or longest p 0) (get_or longest (8 + p) 0)
+-- the share of phase p
+abbrev pub share_at : List PhaseTimes → List Longest → ℕ → ℕ
+share_at owns longest p =
+    phase_share (get_or owns p no_phase_times) (get_or longest p no_longest).walk (get_or longest p no_longest).clearance
 
 pub bound-fits :
     (size : Size) (times : Times) (crossings : List ℕ) →
@@ -47,9 +50,11 @@ walk-fits size times sound k l =
 module _
     (size : Size)
     (times : Times)
-    (crossings longest : List ℕ)
+    (crossings : List ℕ)
+    (longest : List Longest)
     (few : size.phases ≤ 7)
-    (each : (p : ℕ) → p < 8 → (get_or longest p 0 ≡ longest_walk crossings times.walks size.movements p) × (get_or longest (8 + p) 0 ≡ longest_clearance crossings times.walks size.movements p))
+    (walk : (p : ℕ) → p < 8 → (get_or longest p no_longest).walk ≡ longest_walk crossings times.walks size.movements p)
+    (clearance : (p : ℕ) → p < 8 → (get_or longest p no_longest).clearance ≡ longest_clearance crossings times.walks size.movements p)
   where
     abbrev shares : ℕ → ℕ
     shares = share_at times.phases longest
@@ -58,7 +63,7 @@ module _
     unfolding phase_times
     all-shares p e =
         ap (λ (n : ℕ). times.start + n)
-        (ap (sum_of shares) e ∙ sum_same shares _ size.phases (λ p l. let own = each p (omega arith) in rw (own.0, own.1)))
+        (ap (sum_of shares) e ∙ sum_same shares _ size.phases (λ p l. rw (walk p (omega arith), clearance p (omega arith))))
 
     pub shares-fit : SoundTimes size times → (p : ℕ) → p < size.phases → times.start + sum_of shares p + shares p ≤ 65535
     shares-fit sound p l =

@@ -5,40 +5,32 @@
 
 ghost use Rattle.std.specs.Prelude.{◌≤◌, ◌≡◌};
 ghost use Rattle.rules.specs.WaitBound.{phase_share, wait_bound};
-ghost use Rattle.rules.specs.Laws.{Sound};
 
-use rules::site::{PhaseTimes, Site};
-use wait_bound_movements::longest_of;
+use rules::site::PhaseTimes;
+use site_sound::SoundSite;
+use wait_bound_movements::{Longest, longest_of};
 
-// The share of a phase, with its A (`walk`) and C (`clearance`).
-fn phase_share(times: PhaseTimes, walk: u16, clearance: u16) -> u16
-    requires { phase_share times walk clearance ≤ 65535 }
-    ensures { result ≡ phase_share times walk clearance }
+// The share of a phase, with A and C of its movements.
+#[tactic(auto, unfolding(rules::specs::WaitBound::phase_share))]
+fn phase_share(times: PhaseTimes, longest: Longest) -> u16
+    requires { phase_share times longest.walk longest.clearance ≤ 65535 }
+    ensures { result ≡ phase_share times longest.walk longest.clearance }
 {
     times.late
         + times.minimum
         + times.maximum
-        + 2 * (walk + times.early + times.yellow + times.red + clearance)
+        + 2 * (longest.walk + times.early + times.yellow + times.red + longest.clearance)
 }
 
-// The wait bound of a site. It takes the whole site: a part of a struct is copied to hand it over.
-pub fn wait_bound(site: Site) -> u32
-    requires { Sound site }
-    ensures { result ≡ wait_bound site }
+// The wait bound of a site.
+pub fn wait_bound(site: &SoundSite) -> u32
+    ensures { result ≡ wait_bound site.now }
 {
-    let size = site.size;
-    let times = site.times;
-    let owns = times.phases;
-    let phases = size.phases;
-    let walks = times.walks;
-    let crossings = site.crossings;
-    let longest = longest_of(crossings, walks, size.movements);
+    let times = &site.site.times;
+    let longest = longest_of(site.crossings(), &times.walks);
     let mut sum: u16 = times.start;
-    let mut phase: u8 = 0;
-    while phase < phases {
-        let p = phase as usize;
-        sum += phase_share(owns[p], longest[p], longest[8 + p]);
-        phase += 1;
+    for p in 0..usize::from(site.site.size.phases) {
+        sum += phase_share(times.phases[p], longest[p]);
     }
-    sum as u32
+    u32::from(sum)
 }

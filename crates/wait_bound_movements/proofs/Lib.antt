@@ -1,2 +1,2 @@
-pub mod Packed
-pub mod Passes
+pub mod Reached
+pub mod Taken

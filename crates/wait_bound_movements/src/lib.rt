@@ -2,56 +2,41 @@
 // 0 without movements.
 #![tactic(auto)]
 
-ghost use Rattle.std.specs.Prelude.{ℕ, ◌+◌, ◌*◌, ◌≤◌, ◌<◌, max, ◌&&◌, ◌≡◌, ltb, get_or};
-ghost use Rattle.laws.specs.Bytes.{bit};
+ghost use Rattle.std.specs.Prelude.{ℕ, ◌+◌, ◌≤◌, ◌<◌, ◌≡◌, length, get_or};
 ghost use Rattle.rules.specs.WaitBound.{longest_walk, longest_clearance};
 ghost use Rattle.rules.specs.Site.{no_walk_times};
+ghost use Rattle.wait_bound_movements.specs.Longest.{no_longest};
 
 use rules::site::WalkTimes;
 
-fn greater(a: u16, b: u16) -> u16
-    ensures { result ≡ max a b }
-{
-    if a < b { b } else { a }
+// A (`walk`) and C (`clearance`) of a phase.
+#[derive(Clone, Copy)]
+pub struct Longest {
+    pub walk: u16,
+    pub clearance: u16,
 }
 
-// The phase sets of the first `count` movements in one number: bit 8 * k + p is set if movement k is of phase p.
-fn sets_of(crossings: [u8; 8], count: u8) -> u64
-    requires { count ≤ 8 }
-    ensures { (k p : ℕ) → k < 8 → p < 8 → bit (8 * k + p) result ≡ (ltb k count && bit p (get_or crossings k 0)) }
+// A and C of each phase, by the phase set and the times of each movement. The times are a row of the site and the sets another, so movement k is read
+// by its number. Each turn of the inner loop takes the lowest phase of the movement that is left.
+pub fn longest_of(crossings: &[u8], walks: &[WalkTimes; 8]) -> [Longest; 8]
+    requires { (length crossings.now ≤ 8) × ((k : ℕ) → k < length crossings.now → (get_or walks.now k no_walk_times).walk + (get_or walks.now k no_walk_times).first ≤ 65535) }
+    ensures walk { (p : ℕ) → p < 8 → (get_or result p no_longest).walk ≡ longest_walk crossings.now walks.now (length crossings.now) p }
+    ensures clearance { (p : ℕ) → p < 8 → (get_or result p no_longest).clearance ≡ longest_clearance crossings.now walks.now (length crossings.now) p }
 {
-    let low = (crossings[0] as u64)
-        | ((crossings[1] as u64) << 8)
-        | ((crossings[2] as u64) << 16)
-        | ((crossings[3] as u64) << 24);
-    let all = low
-        | ((crossings[4] as u64) << 32)
-        | ((crossings[5] as u64) << 40)
-        | ((crossings[6] as u64) << 48)
-        | ((crossings[7] as u64) << 56);
-    if count < 8 {
-        return all % (1u64 << (8 * count));
-    }
-    all
-}
-
-// A and C of each phase among the first `count` movements: A of phase p at p, C at 8 + p. Each turn of the loop takes the lowest bit that
-// is left, so a movement has one turn for each of its phases.
-pub fn longest_of(crossings: [u8; 8], walks: [WalkTimes; 8], count: u8) -> [u16; 16]
-    requires { (count ≤ 8) × ((k : ℕ) → k < count → (get_or walks k no_walk_times).walk + (get_or walks k no_walk_times).first ≤ 65535) }
-    ensures { (p : ℕ) → p < 8 → (get_or result p 0 ≡ longest_walk crossings walks count p) × (get_or result (8 + p) 0 ≡ longest_clearance crossings walks count p) }
-{
-    let mut longest = [0u16; 16];
-    let mut rest = sets_of(crossings, count);
-    while rest != 0 {
-        let i = u64::trailing_zeros(rest) as usize;
-        let own = walks[i / 8];
-        let p = i % 8;
-        let walk = greater(longest[p], own.walk + own.first);
-        let clearance = greater(longest[8 + p], own.second);
-        longest[p] = walk;
-        longest[8 + p] = clearance;
-        rest = rest & (rest - 1);
+    let mut longest = [Longest {
+        walk: 0,
+        clearance: 0,
+    }; 8];
+    // A test of each of the eight phases costs a step of the largest site 314 instructions more.
+    for k in 0..crossings.len() {
+        let own = walks[k];
+        let mut rest = u64::from(crossings[k]);
+        while rest != 0 {
+            let so_far = &mut longest[rest.trailing_zeros() as usize];
+            so_far.walk = so_far.walk.max(own.walk + own.first);
+            so_far.clearance = so_far.clearance.max(own.second);
+            rest &= rest - 1;
+        }
     }
     longest
 }

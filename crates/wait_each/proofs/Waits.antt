@@ -1,27 +1,28 @@
 -- No wait is more than the wait bound, which two bytes hold, and so is no sum on the way. The phase after q is found by a search for any phase.
 use Prim.Native.Nat.{ℕ, ◌+◌, ◌≤◌, ◌<◌, max}
-use mathlib.Core.Bool.{Bool, true, ◌&&◌}
+use mathlib.Core.Bool.{true, false, not, ◌&&◌}
 use mathlib.Core.List.{List, [], ◌∷◌, ◌++◌}
 use mathlib.Core.Path.{◌≡◌, refl, sym, ap, ◌∙◌}
 use native.Mathlib.Nat.{le_trans, zero-add, suc-add}
 use native.Mathlib.Omega.{arith}
 use lib.Dec.{eqb}
+use borrow.Author.Tests.{eq-eqb, ne_eqb, not-true, not-false}
+use native.Mathlib.Numerals.{add-one}
+use Rattle.std.specs.Option.{option_eq}
 use lib.ListN.{length, get_or, get_or-append}
-use Rattle.rules.specs.declared.site.PhaseTimes.{PhaseTimes}
 use Rattle.rules.specs.declared.site.Site.{Site}
-use Rattle.rules.specs.declared.state.Held.{Held}
 use Rattle.laws.specs.Bytes.{bit}
-use Rattle.std.specs.Prelude.{if◌then◌else◌}
+use Rattle.std.specs.Prelude.{if◌then◌else◌, Option, None, Some, ◌≢◌}
 use Rattle.laws.specs.Folds.{sum_of, greatest_of, list_of}
-use Rattle.rules.specs.Site.{no_phase_times, phase_times, walk_times, crosses, ring}
+use Rattle.rules.specs.Site.{walk_times, crosses, ring}
 use Rattle.rules.specs.IntervalTable.{is_held, phase_held}
 use Rattle.rules.specs.Demands.{next_after}
-use Rattle.rules.specs.WaitBound.{wait_bound, longest_clearance}
-use Rattle.rules.specs.Waits.{leaving_of, turn_of, rest_of, comes_after, clearing_of, clears_first, phase_wait_by, phase_wait, movement_wait, phase_of_movement, waits_of}
+use Rattle.rules.specs.WaitBound.{wait_bound}
+use Rattle.rules.specs.Waits.{turn_of, rest_of, comes_after, clearing_of, phase_wait_by, phase_wait, movement_wait, phase_of_movement, waits_of}
 use Rattle.rules.specs.Laws.{Sound}
 use Rattle.laws.proofs.BitRanges.{full-each}
 use Rattle.laws.proofs.Lists.{list_length, list_at}
-use Rattle.laws.proofs.Sums.{sum-part, greatest-same}
+use Rattle.laws.proofs.Sums.{sum-part}
 use Rattle.rules.proofs.Settings.{walk-reached}
 use Rattle.proof_ring.proofs.Turns.{turn}
 use Rattle.proof_ring.proofs.Ring.{found-same}
@@ -46,49 +47,58 @@ module _ (site : Site) (sound : Sound site) (q : ℕ) (below : q < site.size.pha
       le_trans (movement-wait-within site sound q below m exists crossing)
       (bound-fits site.size site.times site.crossings sound.phases.1 sound.times)
 
-  pub turns_fit : (p : ℕ) → p < site.size.phases → sum_of (other_turn site q) p + other_turn site q p ≤ 65535
+  turns_fit : (p : ℕ) → p < site.size.phases → sum_of (other_turn site q) p + other_turn site q p ≤ 65535
   unfolding phase_wait_by rest_of
   turns_fit p l = omega (arith, wait-fits, sum-part (other_turn site q) p site.size.phases l)
+
+  pub turn-fits : (p : ℕ) → p < site.size.phases → p ≢ q → sum_of (other_turn site q) p + turn_of site p ≤ 65535
+  turn-fits p l apart =
+      let fits = turns_fit p l in
+      rw (ne_eqb p q apart) at fits
+
+  -- one turn more, and none for q
+  pub turn-more : (p : ℕ) → p ≢ q → sum_of (other_turn site q) p + turn_of site p ≡ sum_of (other_turn site q) (p + 1)
+  unfolding sum_of
+  turn-more p apart = rw (add-one p, ne_eqb p q apart) refl
+
+  pub turn-past : (p : ℕ) → p ≡ q → sum_of (other_turn site q) p ≡ sum_of (other_turn site q) (p + 1)
+  unfolding sum_of
+  turn-past p same = rw (add-one p, eq-eqb p q same) (omega arith)
 
   -- any phase passes
   any-phase : (p : ℕ) → p < 8 → bit p 255 ≡ true
   any-phase p l = full-each 8 255 p refl l
 
-  pub comes-told : (r : ℕ) (next : Held) → next ≡ next_after (ring site.order site.size.phases) q (λ p. bit p 255) → (is_held next && eqb (phase_held next) r) ≡ comes_after site q r
+  -- as the code asks it
+  held-told : (next : Option ℕ) (r : ℕ) → not (option_eq eqb next (Some r)) ≡ not (is_held next && eqb (phase_held next) r)
+  unfolding is_held phase_held
+  held-told None r = refl
+  held-told (Some p) r = refl
+
+  pub comes-told :
+      (r : ℕ) (next : Option ℕ) →
+      next ≡ next_after (ring site.order site.size.phases) q (λ p. bit p 255) →
+      not (option_eq eqb next (Some r)) ≡ not (comes_after site q r)
   unfolding comes_after next_after turn
   comes-told r next e =
-      ap (λ (next : Held). is_held next && eqb (phase_held next) r)
+      held-told next r
+      ∙ ap (λ (next : Option ℕ). not (is_held next && eqb (phase_held next) r))
       (e ∙ found-same (ring_of site sound) (λ p. bit p 255) (λ p. true) q (λ p l. any-phase p (omega (arith, sound.phases))))
 
 -- ── What comes first ──
 
--- what phase r counts, where A and C of the phases stand as `longest_of` gives them
-abbrev pub clearing_part : Held → List PhaseTimes → List ℕ → ℕ → ℕ
-clearing_part next owns longest r =
-    if is_held next && eqb (phase_held next) r then 0 else max (leaving_of (get_or owns r no_phase_times)) (get_or longest (8 + r) 0)
+-- the greatest of start red and of the first n phases
+abbrev pub first_of : (site : Site) (q n : ℕ) → ℕ
+first_of site q n = max site.times.start (greatest_of (λ r. if comes_after site q r then 0 else clearing_of site r) n)
 
--- as the code counts it
-pub clearing-told :
-    (next : Held) (owns : List PhaseTimes) (longest : List ℕ) (r part : ℕ) (skipped : Bool) →
-    skipped ≡ (is_held next && eqb (phase_held next) r) →
-    part ≡ (if skipped then 0 else max (leaving_of (get_or owns r no_phase_times)) (get_or longest (8 + r) 0)) →
-    part ≡ clearing_part next owns longest r
-clearing-told next owns longest r part skipped e own = own ∙ rw e
+module _ (site : Site) (q r : ℕ) where
+  pub first-more : not (comes_after site q r) ≡ true → max (first_of site q r) (clearing_of site r) ≡ first_of site q (r + 1)
+  unfolding greatest_of
+  first-more counts = rw (add-one r, not-true (comes_after site q r) counts) (omega arith)
 
-pub all-clearings :
-    (site : Site) (sound : Sound site) (q : ℕ) (below : q < site.size.phases) (next : Held) (longest : List ℕ) (most r : ℕ) →
-    next ≡ next_after (ring site.order site.size.phases) q (λ p. bit p 255) →
-    ((p : ℕ) → p < 8 → get_or longest (8 + p) 0 ≡ longest_clearance site.crossings site.times.walks site.size.movements p) →
-    most ≡ max site.times.start (greatest_of (clearing_part next site.times.phases longest) r) →
-    r ≡ site.size.phases →
-    most ≡ clears_first site q
-unfolding clears_first clearing_of phase_times
-all-clearings site sound q below next longest most r found each e same =
-    e
-    ∙ ap (λ (n : ℕ). max site.times.start n)
-    (ap (greatest_of (clearing_part next site.times.phases longest)) same
-    ∙ greatest-same (clearing_part next site.times.phases longest) (λ r. if comes_after site q r then 0 else clearing_of site r) site.size.phases
-    (λ r l. rw (comes-told site sound q below r next found, each r (omega (arith, sound.phases)))))
+  pub first-past : not (comes_after site q r) ≡ false → first_of site q r ≡ first_of site q (r + 1)
+  unfolding greatest_of
+  first-past next = rw (add-one r, not-false (comes_after site q r) next) (omega arith)
 
 pub walks-fit : (site : Site) → Sound site → (k : ℕ) → k < site.size.movements → (walk_times site.times k).walk + (walk_times site.times k).first ≤ 65535
 walks-fit site sound k l = let reached = walk-reached site sound k l in omega (arith, reached.walk, reached.first)
@@ -98,18 +108,22 @@ walks-fit site sound k l = let reached = walk-reached site sound k l in omega (a
 abbrev pub phase_in : ℕ → ℕ → ℕ
 phase_in set p = if bit p set then p else 0
 
--- as the code counts it
-pub phase-told : (set p part : ℕ) (has : Bool) → has ≡ bit p set → part ≡ (if has then p else 0) → part ≡ phase_in set p
-phase-told set p part has e own = own ∙ rw e
+module _ (set p : ℕ) where
+  pub phase-more : bit p set ≡ true → max (greatest_of (phase_in set) p) p ≡ greatest_of (phase_in set) (p + 1)
+  unfolding greatest_of
+  phase-more has = rw (add-one p, has) refl
+
+  pub phase-past : bit p set ≡ false → greatest_of (phase_in set) p ≡ greatest_of (phase_in set) (p + 1)
+  unfolding greatest_of
+  phase-past not = rw (add-one p, not) (omega arith)
 
 pub all-phases :
     (site : Site) (m most p : ℕ) →
-    most ≡ max 0 (greatest_of (phase_in (get_or site.crossings m 0)) p) →
+    most ≡ greatest_of (phase_in (get_or site.crossings m 0)) p →
     p ≡ site.size.phases →
     most ≡ phase_of_movement site m
 unfolding phase_of_movement crosses
-all-phases site m most p e same =
-    e ∙ ap (λ (n : ℕ). max 0 (greatest_of (phase_in (get_or site.crossings m 0)) n)) same ∙ omega arith
+all-phases site m most p e same = e ∙ ap (greatest_of (phase_in (get_or site.crossings m 0))) same
 
 -- it is a phase of the site, and the movement is of it
 pub phase-fits :
