@@ -3,7 +3,6 @@ use Prim.Native.Nat.{ℕ, zero, suc, ◌+◌, ◌*◌, ◌≤◌, ◌<◌}
 use mathlib.Core.Bool.{Bool, true, false}
 use mathlib.Core.List.{List, [], ◌++◌, append-nil}
 use mathlib.Core.Path.{◌≡◌, refl, ap, ◌∙◌}
-use native.Mathlib.Nat.{add-zero}
 use native.Mathlib.Numerals.{add-one}
 use native.Mathlib.Omega.{arith}
 use lib.Dec.{ltb}
@@ -48,18 +47,6 @@ pub walks-sum :
     ≡ length (reasons_text (walks walking k)) + length (reasons_text (told (walking k) (Walk (k + 1))))
 walks-sum walking k = ap length (walks_more walking k) ∙ length-append (reasons_text (walks walking k)) _
 
--- more movements take no fewer bytes
-pub walks-grow : (walking : ℕ → Bool) (more k : ℕ) → length (reasons_text (walks walking k)) ≤ length (reasons_text (walks walking (k + more)))
-walks-grow walking zero k = rw add-zero (omega arith)
-walks-grow walking (suc more) k =
-    let same : k + 1 + more ≡ k + suc more = omega arith in
-    omega (
-      arith,
-      walks-sum walking k,
-      walks-grow walking more (k + 1),
-      ap (λ (n : ℕ). length (reasons_text (walks walking n))) same,
-    )
-
 -- ── The bytes of a reason with a number of few digits ──
 
 gap-short : (n : ℕ) → n < 1000 → length (reason_text (Gap n)) ≤ 9
@@ -95,7 +82,7 @@ pub line-short : (phase : ℕ) → length (line phase []) ≡ 7
 unfolding line reasons_text
 line-short phase = refl
 
-line-sum : (phase : ℕ) (reasons more : List Reason) → length (line phase (reasons ++ more)) ≡ length (line phase reasons) + length (reasons_text more)
+pub line-sum : (phase : ℕ) (reasons more : List Reason) → length (line phase (reasons ++ more)) ≡ length (line phase reasons) + length (reasons_text more)
 line-sum phase reasons more = ap length (line-more phase reasons more) ∙ length-append (line phase reasons) (reasons_text more)
 
 module _ (phase : ℕ) (alone : Bool) (gap left : ℕ) (walking : ℕ → Bool) where

@@ -2,10 +2,12 @@
 #![tactic(auto)]
 
 ghost use Rattle.std.specs.Prelude.{◌+◌, ◌≤◌, ◌<◌, ◌++◌, ◌≡◌, length, drop};
+ghost use Rattle.std.specs.Bool.{then_some};
+ghost use Rattle.std.specs.List.{flat_map};
+ghost use Rattle.std.specs.Option.{option_to_list};
 ghost use Rattle.laws.specs.Bytes.{bit};
-ghost use Rattle.panel_text.specs.Text.{reasons_text};
-ghost use Rattle.base_text.specs.Put.{Put};
-ghost use Rattle.panel_line.specs.Reasons.{told, walks as Reasons·walks, line_of};
+ghost use Rattle.panel_text.specs.declared.Reason.TheVariants.{Walk};
+ghost use Rattle.panel_line.specs.Reasons.{reasons_by, line_of};
 
 use panel_text::{Reason, put_phase, put_reason, reason_length};
 
@@ -23,64 +25,48 @@ pub struct Why {
     pub walks: u8,
 }
 
-// Puts a reason if it is true.
-fn put_told(test: bool, reason: Reason, at: usize, out: &mut [u8]) -> usize
-    requires { at + length (reasons_text (told test reason)) ≤ length out.old }
-    ensures { Put (reasons_text (told test reason)) at out.old out.new result }
+// Movement k of the set, if it is in it; movements are numbered from 1.
+fn walk_in(set: u8, k: u8) -> Option<Reason>
+    requires { k < 8 }
+    ensures { result ≡ then_some (bit k set) (Walk (k + 1)) }
 {
-    if test {
-        put_reason(reason, at, out)
-    } else {
-        at
-    }
+    base_bytes::bit8(k, set).then_some(Reason::Walk {
+        number: u16::from(k) + 1,
+    })
 }
 
-// How many bytes a reason takes if it is true.
-fn told_length(test: bool, reason: Reason) -> usize
-    ensures { (result ≡ length (reasons_text (told test reason))) × (result ≤ 17) }
+// The reasons of a line in their order, each at a place of its own. The text of the line and its length both come from them.
+fn reasons_of(why: Why) -> [Option<Reason>; 11]
+    ensures { flat_map option_to_list result ≡ reasons_by why.alone why.gap why.left (λ k. bit k why.walks) }
 {
-    if test { reason_length(reason) } else { 0 }
-}
-
-// Puts the movements of the set, rising, and numbered from 1.
-fn put_walks(set: u8, at: usize, out: &mut [u8]) -> usize
-    requires { at + length (reasons_text (Reasons·walks (λ k. bit k set) 8)) ≤ length out.old }
-    ensures { Put (reasons_text (Reasons·walks (λ k. bit k set) 8)) at out.old out.new result }
-{
-    let mut next = at;
-    let mut k: u8 = 0;
-    while k < 8 {
-        let number = k as u16 + 1;
-        next = put_told(base_bytes::bit8(k, set), Reason::Walk { number }, next, out);
-        k += 1;
-    }
-    next
-}
-
-// How many bytes the movements of the set take.
-fn walks_length(set: u8) -> usize
-    ensures { (result ≡ length (reasons_text (Reasons·walks (λ k. bit k set) 8))) × (result ≤ 136) }
-{
-    let mut total: usize = 0;
-    let mut k: u8 = 0;
-    while k < 8 {
-        let number = k as u16 + 1;
-        total += told_length(base_bytes::bit8(k, set), Reason::Walk { number });
-        k += 1;
-    }
-    total
+    let walks = why.walks;
+    // The eight movements are listed: a loop that fills the array one by one is no plainer.
+    [
+        why.alone.then_some(Reason::NoOtherDemand),
+        (0 < why.gap).then_some(Reason::Gap { count: why.gap }),
+        (0 < why.left).then_some(Reason::Max { left: why.left }),
+        walk_in(walks, 0),
+        walk_in(walks, 1),
+        walk_in(walks, 2),
+        walk_in(walks, 3),
+        walk_in(walks, 4),
+        walk_in(walks, 5),
+        walk_in(walks, 6),
+        walk_in(walks, 7),
+    ]
 }
 
 // How many bytes the line has; the number fits in a byte.
 pub fn line_length(why: Why) -> usize
     ensures { (result ≡ length (line_of why)) × (result < 256) }
 {
-    let gap = why.gap;
-    let left = why.left;
-    7 + told_length(why.alone, Reason::NoOtherDemand)
-        + told_length(0 < gap, Reason::Gap { count: gap })
-        + told_length(0 < left, Reason::Max { left })
-        + walks_length(why.walks)
+    let mut total: usize = 7;
+    for reason in &reasons_of(why) {
+        if let Some(reason) = reason {
+            total += reason_length(*reason);
+        }
+    }
+    total
 }
 
 // Puts the line at the start of `out`, and answers its length. The bytes behind it stay as they are.
@@ -88,11 +74,11 @@ pub fn put_line(why: Why, out: &mut [u8]) -> usize
     requires { (why.phase < 7) × (length (line_of why) ≤ length out.old) }
     ensures { (result ≡ length (line_of why)) × (out.new ≡ line_of why ++ drop (length (line_of why)) out.old) }
 {
-    let gap = why.gap;
-    let left = why.left;
-    let start = put_phase(why.phase, out);
-    let first = put_told(why.alone, Reason::NoOtherDemand, start, out);
-    let second = put_told(0 < gap, Reason::Gap { count: gap }, first, out);
-    let third = put_told(0 < left, Reason::Max { left }, second, out);
-    put_walks(why.walks, third, out)
+    let mut next = put_phase(why.phase, out);
+    for reason in &reasons_of(why) {
+        if let Some(reason) = reason {
+            next = put_reason(*reason, next, out);
+        }
+    }
+    next
 }

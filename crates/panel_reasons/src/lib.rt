@@ -7,23 +7,23 @@ ghost use Rattle.panel_reasons.specs.PanelLine.{no_other, walking_among};
 ghost use Rattle.panel_reasons.specs.Holding.{Holding, Tells};
 
 use base_bytes::sets;
+use base_intervals::is_walk_or_first;
 use panel_line::Why;
-use rules::site::Site;
 use rules::state::{KeptState, Movement};
+use site_sound::SoundSite;
+use step_counts::phase_times;
+use step_demands_detectors::sense;
+use step_demands_ring::next_after;
 
 // Whether no other phase is in the kept set or has a call. The phase itself is running, so no call of it counts.
-fn no_other(site: Site, state: KeptState, inputs: u64) -> bool
-    requires { Holding site state }
-    ensures { result ≡ no_other site state inputs }
+fn no_other(site: &SoundSite, state: KeptState, inputs: u64) -> bool
+    requires { Holding site.now state }
+    ensures { result ≡ no_other site.now state inputs }
 {
     let phase = state.core.position.phase;
-    let size = site.size;
-    let detectors = site.detectors;
-    let order = site.order;
-    let sensed = step_demands_detectors::sense(detectors, size.detectors, inputs, phase);
+    let sensed = sense(site.detectors(), inputs, phase);
     let calling = sets::without(sensed.calls, phase);
-    let next = step_demands_ring::next_after(state.kept | calling, phase, order, size.phases);
-    !base_intervals::is_held(next)
+    next_after(state.kept | calling, phase, site.ring()).is_none()
 }
 
 // The movements in walk or C1, as a set.
@@ -31,35 +31,26 @@ fn walking(movements: [Movement; 8]) -> u8
     ensures { result ≡ set_of (walking_among movements) }
 {
     let mut set: u8 = 0;
-    let mut k: u8 = 0;
-    while k < 8 {
-        let movement = movements[k as usize];
-        let stage = movement.stage;
-        if base_intervals::is_walk_or_first(stage) {
+    for k in 0..8 {
+        if is_walk_or_first(movements[usize::from(k)].stage) {
             set = sets::with(set, k);
         }
-        k += 1;
     }
     set
 }
 
 // What the line says of the state. The site has the times that rule in it.
-pub fn why_of(site: Site, state: KeptState, inputs: u64) -> Why
-    requires { Holding site state }
-    ensures { Tells site state inputs result }
+pub fn why_of(site: &SoundSite, state: KeptState, inputs: u64) -> Why
+    requires { Holding site.now state }
+    ensures { Tells site.now state inputs result }
 {
     let core = state.core;
-    let phase = core.position.phase;
-    let counts = core.counts;
-    let movements = core.movements;
-    let times = site.times;
-    let own = step_counts::phase_times(times, phase);
-    let left = own.maximum - counts.maximum;
+    let own = phase_times(&site.site.times, core.position.phase);
     Why {
-        phase,
+        phase: core.position.phase,
         alone: no_other(site, state, inputs),
-        gap: counts.gap,
-        left,
-        walks: walking(movements),
+        gap: core.counts.gap,
+        left: own.maximum - core.counts.maximum,
+        walks: walking(core.movements),
     }
 }

@@ -2,7 +2,6 @@
 use Prim.Native.Nat.{ℕ, ◌+◌, ◌<◌}
 use mathlib.Core.List.{List, [], ◌∷◌, ◌++◌, append_assoc}
 use mathlib.Core.Path.{◌≡◌, refl, sym, ap, ◌∙◌}
-use native.Mathlib.Omega.{arith}
 use Rattle.laws.specs.Folds.{all_of}
 use Rattle.laws.proofs.Tables.{table-equal}
 use Rattle.rules.specs.TraceText.{phase_letter}

@@ -1,5 +1,5 @@
 -- A phase and a list of reasons as one line of ASCII, without a terminator.
-use Rattle.std.specs.Prelude.{ℕ, List, [], ◌∷◌, ◌++◌}
+use Rattle.std.specs.Prelude.{ℕ, Option, None, Some, List, [], ◌∷◌, ◌++◌}
 use Rattle.rules.specs.TraceText.{phase_letter}
 use Rattle.panel_text.specs.declared.Reason.{Reason}
 use Rattle.panel_text.specs.declared.Reason.TheVariants.{NoOtherDemand, Gap, Max, Walk}
@@ -12,6 +12,11 @@ reason_text NoOtherDemand = ascii ", no other demand"
 reason_text (Gap count) = ascii ", gap " ++ decimal count
 reason_text (Max left) = ascii ", max " ++ decimal left
 reason_text (Walk number) = ascii ", walk " ++ decimal number
+
+-- the decimal of a number, if there is one
+abbrev pub number_text : Option ℕ → List ℕ
+number_text None = []
+number_text (Some n) = decimal n
 
 unfoldable pub reasons_text : List Reason → List ℕ
 reasons_text [] = []

@@ -1,9 +1,8 @@
 // The line of the technician's panel as text: a phase, and the reasons why it holds.
 #![tactic(auto)]
 
-ghost use Rattle.std.specs.Prelude.{◌+◌, ◌≤◌, ◌<◌, ◌≡◌, ◌++◌, [], length};
-ghost use Rattle.laws.specs.Decimal.{decimal};
-ghost use Rattle.panel_text.specs.Text.{reason_text, line};
+ghost use Rattle.std.specs.Prelude.{◌+◌, ◌≤◌, ◌<◌, ◌≡◌, ◌++◌, [], length, is_some, if◌then◌else◌};
+ghost use Rattle.panel_text.specs.Text.{reason_text, number_text, line};
 ghost use Rattle.base_text.specs.Put.{Put};
 
 use base_text::{digit_count, put_bytes, put_decimal};
@@ -17,25 +16,30 @@ pub enum Reason {
     Walk { number: u16 },
 }
 
-// Puts a word and a number, from a place on. So do all functions here that put.
-fn put_counted(word: &[u8], n: u16, at: usize, out: &mut [u8]) -> usize
-    requires { at + (length word.now + length (decimal n)) ≤ length out.old }
-    ensures { Put (word.now ++ decimal n) at out.old out.new result }
+// The word of a reason, with what stands before and behind it, and the number behind the word, if it has one.
+#[tactic(auto, unfolding(crate::specs::Text::reason_text))]
+fn parts_of(reason: Reason) -> (&'static [u8], Option<u16>)
+    ensures text { reason_text reason ≡ result.0.now ++ number_text result.1 }
+    ensures short { length result.0.now + (if is_some result.1 then 5 else 0) ≤ 17 }
 {
-    let next = put_bytes(word, at, out);
-    put_decimal(n, next, out)
+    match reason {
+        Reason::NoOtherDemand => (b", no other demand", None),
+        Reason::Gap { count } => (b", gap ", Some(count)),
+        Reason::Max { left } => (b", max ", Some(left)),
+        Reason::Walk { number } => (b", walk ", Some(number)),
+    }
 }
 
-// Puts a reason.
+// Puts a reason, from a place on.
 pub fn put_reason(reason: Reason, at: usize, out: &mut [u8]) -> usize
     requires { at + length (reason_text reason) ≤ length out.old }
     ensures { Put (reason_text reason) at out.old out.new result }
 {
-    match reason {
-        Reason::NoOtherDemand => put_bytes(b", no other demand", at, out),
-        Reason::Gap { count } => put_counted(b", gap ", count, at, out),
-        Reason::Max { left } => put_counted(b", max ", left, at, out),
-        Reason::Walk { number } => put_counted(b", walk ", number, at, out),
+    let (word, number) = parts_of(reason);
+    let next = put_bytes(word, at, out);
+    match number {
+        Some(n) => put_decimal(n, next, out),
+        None => next,
     }
 }
 
@@ -43,11 +47,10 @@ pub fn put_reason(reason: Reason, at: usize, out: &mut [u8]) -> usize
 pub fn reason_length(reason: Reason) -> usize
     ensures { (result ≡ length (reason_text reason)) × (result ≤ 17) }
 {
-    match reason {
-        Reason::NoOtherDemand => 17,
-        Reason::Gap { count } => 6 + digit_count(count),
-        Reason::Max { left } => 6 + digit_count(left),
-        Reason::Walk { number } => 7 + digit_count(number),
+    let (word, number) = parts_of(reason);
+    match number {
+        Some(n) => word.len() + digit_count(n),
+        None => word.len(),
     }
 }
 
@@ -56,6 +59,6 @@ pub fn put_phase(phase: u8, out: &mut [u8]) -> usize
     requires { (phase < 7) × (7 ≤ length out.old) }
     ensures { Put (line phase []) 0 out.old out.new result }
 {
-    out[0] = 65 + phase;
+    out[0] = b'A' + phase;
     put_bytes(b" holds", 1, out)
 }

@@ -1,18 +1,19 @@
 -- Internal: no promise cites this file. A road from its start to its end, in cells, and then in results.
 use Rattle.std.specs.Prelude.{ℕ, ◌≤◌, false, List, ◌≡◌, length}
-use Rattle.rules.specs.declared.answer.Verdict.TheVariants.{Accepted}
+use Rattle.rules.specs.Verdicts.{Accepted}
 use Rattle.rules.specs.declared.site.Site.{Site}
 use Rattle.rules.specs.declared.state.KeptState.{KeptState}
 use Rattle.rules.specs.Personality.{verdict_of}
 use Rattle.rules.specs.Site.{site_of}
 use Rattle.rules.specs.Kept.{fresh_kept}
+use Rattle.road_streams.specs.declared.Traffic.{Traffic}
 use Rattle.road_streams.specs.Road.{bad_streams, results_of, results_for, road_after}
 use Rattle.road_step.specs.OnRoad.{OnRoad}
 
 -- ── In cells ──
 
 -- some road, before its first step
-pub record AtStart (site : Site) (streams : List ℕ) (steps : ℕ) (cells : List ℕ) : Type 0 where
+pub record AtStart (site : Site) (streams : List ℕ) (steps : ℕ) (cells : List Traffic) : Type 0 where
   pub b : List ℕ
   pub road : OnRoad b streams steps site 0 fresh_kept cells
 

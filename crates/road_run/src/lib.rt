@@ -4,13 +4,12 @@
 ghost use Rattle.std.specs.Prelude.{◌+◌, ◌*◌, ◌≤◌, ◌≡◌, length};
 ghost use Rattle.std.proofs.lemmas.List.Edits.{sets};
 ghost use Rattle.state_forms.specs.Forms.{parts_of};
-ghost use Rattle.road_streams.specs.Road.{result_of};
-ghost use Rattle.road_step.specs.Cells.{traffic_at};
+ghost use Rattle.road_streams.specs.Road.{traffic_of, result_of};
 ghost use Rattle.road_run.specs.Whole.{Startable, RanTo};
 
 use road_streams::Traffic;
-use rules::site::Site;
 use rules::state::KeptState;
+use site_sound::SoundSite;
 
 // The result of one stream: its vehicles queued and gone.
 fn put_result(results: &mut [u8], at: usize, traffic: Traffic)
@@ -21,25 +20,23 @@ fn put_result(results: &mut [u8], at: usize, traffic: Traffic)
     state_forms::put_two(results, at + 2, traffic.gone);
 }
 
-// The results of the first count streams, from the buffer's start on.
-fn put_results(cells: &[u16], count: usize, results: &mut [u8])
-    requires { (count * 4 ≤ length cells.now) × (count * 4 ≤ length results.old) }
-    ensures { results.new ≡ sets results.old 0 (parts_of (λ i. result_of (traffic_at cells.now i)) count) }
+// The results of the streams, from the buffer's start on.
+fn put_results(cells: &[Traffic], results: &mut [u8])
+    requires { length cells.now * 4 ≤ length results.old }
+    ensures { results.new ≡ sets results.old 0 (parts_of (λ i. result_of (traffic_of cells.now i)) (length cells.now)) }
 {
-    let mut i: usize = 0;
-    while i < count {
-        put_result(results, i * 4, road_step::traffic_at(cells, i));
-        i += 1;
+    for (i, traffic) in cells.iter().enumerate() {
+        put_result(results, i * 4, *traffic);
     }
 }
 
 // The whole road on a site whose streams are not refused: its results, and its last state as the answer.
-pub fn run(site: Site, streams: &[u8], steps: u32, results: &mut [u8]) -> KeptState
-    requires { Startable site streams.now steps (length results.old) }
-    ensures { RanTo site streams.now steps results.old result results.new }
+pub fn run(site: &SoundSite, streams: &[u8], steps: u32, results: &mut [u8]) -> KeptState
+    requires { Startable site.now streams.now steps (length results.old) }
+    ensures { RanTo site.now streams.now steps results.old result results.new }
 {
-    let mut cells = [0u16; 192];
+    let mut cells = [Traffic::NONE; 48];
     let state = road_step::road_steps(site, streams, state_fresh::fresh(), steps, &mut cells);
-    put_results(&cells, streams.len() / 4, results);
+    put_results(&cells[..streams.len() / 4], results);
     state
 }

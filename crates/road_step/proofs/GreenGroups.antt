@@ -1,4 +1,5 @@
 -- The set of the vehicle groups that show green: it is that of the position, and a position that only ages keeps it.
+use Rattle.std.specs.Prelude.{Option}
 use Prim.Native.Nat.{ℕ, ◌+◌, ◌≤◌, ◌<◌}
 use mathlib.Core.Bool.{Bool, true, false, ◌&&◌, or-false}
 use mathlib.Core.Logic.{inl, inr, ⊎_elim}
@@ -11,7 +12,6 @@ use Rattle.laws.proofs.Bits.{bit-blank}
 use Rattle.laws.proofs.Indices.{same-or-apart}
 use Rattle.rules.specs.declared.site.Site.{Site}
 use Rattle.rules.specs.declared.site.Times.{Times}
-use Rattle.rules.specs.declared.state.Held.{Held}
 use Rattle.rules.specs.declared.state.Interval.{Interval}
 use Rattle.rules.specs.declared.state.Interval.TheVariants.{StartRed, LateStart, MinimumGreen, Running, EarlyCutOff, Yellow, AllRed}
 use Rattle.rules.specs.declared.state.KeptState.{KeptState}
@@ -93,7 +93,7 @@ green-kept site sound none old new greens older follows held g l vehicle =
     follows
 
 -- an interval that follows begins at age 1
-begun : (interval : Interval) (times : Times) (next : Held) (old : Position) → (following interval times next old).age ≡ 1
+begun : (interval : Interval) (times : Times) (next : Option ℕ) (old : Position) → (following interval times next old).age ≡ 1
 unfolding following entering starting leaving
 begun StartRed times next old = refl
 begun LateStart times next old = refl
@@ -103,7 +103,7 @@ begun EarlyCutOff times next old = refl
 begun Yellow times next old = refl
 begun AllRed times next old = refl
 
-after : (ended : Bool) (times : Times) (next : Held) (old : Position) → Follows old (position_after ended times next old)
+after : (ended : Bool) (times : Times) (next : Option ℕ) (old : Position) → Follows old (position_after ended times next old)
 unfolding position_after staying
 after true times next old = inl (begun old.interval times next old)
 after false times next old = inr (refl, refl, refl, refl)

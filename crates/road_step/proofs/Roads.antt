@@ -23,7 +23,7 @@ use Rattle.road_streams.specs.Road.{stream_count, stream_at, traffic_of, arrived
 use Rattle.proof_road.proofs.Streams.{KnownStreams, known-streams}
 use Rattle.proof_road.proofs.Flow.{Flow, flow-arrived, flow-few, road-flow, arrivals-at}
 use Rattle.proof_road.proofs.Steps.{sound, road-valid, state-given, colours-given}
-use Rattle.road_step.specs.Cells.{traffic_at, traffic_in}
+use Rattle.road_step.specs.Cells.{traffic_in}
 use Rattle.road_step.specs.Passes.{Arriving, ArrivedIn, Releasing, Painted, ReleasedIn}
 use Rattle.road_step.specs.Greens.{GreenIn}
 use Rattle.road_step.specs.OnRoad.{OnRoad}
@@ -40,7 +40,7 @@ shown-at site core g l =
     get_or-append (list_of (shown_in site core) count) (drop count blank_colours) 0 g (omega (arith, list_length (shown_in site core) count))
     ∙ list_at (shown_in site core) count g 0 l
 
-module _ {b streams : List ℕ} {steps : ℕ} {site : Site} {n : ℕ} {state : KeptState} {cells : List ℕ} (road : OnRoad b streams steps site n state cells) where
+module _ {b streams : List ℕ} {steps : ℕ} {site : Site} {n : ℕ} {state : KeptState} {cells : List Traffic} (road : OnRoad b streams steps site n state cells) where
   known : KnownStreams (site_of b) streams steps
   known = known-streams (site_of b) streams steps road.known
 
@@ -60,7 +60,7 @@ module _ {b streams : List ℕ} {steps : ℕ} {site : Site} {n : ℕ} {state : K
       flow-held : Flow (stream_at streams i).rate n (traffic_of (road_after b streams n).traffic i)
       flow-held = road-flow b streams i l (omega (arith, slow)) n
 
-      held : traffic_at cells i ≡ traffic_of (road_after b streams n).traffic i
+      held : traffic_of cells i ≡ traffic_of (road_after b streams n).traffic i
       held = sym (held_at cells (stream_count streams) i l) ∙ ap (λ (t : List Traffic). traffic_of t i) road.traffic
 
       -- a vehicle more may have come
@@ -89,14 +89,14 @@ module _ {b streams : List ℕ} {steps : ℕ} {site : Site} {n : ℕ} {state : K
     abbrev waiting : List Traffic
     waiting = arrivals streams (road_after b streams n).traffic
 
-    module _ {more : List ℕ} {inputs : ℕ} (came : ArrivedIn streams cells more inputs) where
+    module _ {more : List Traffic} {inputs : ℕ} (came : ArrivedIn streams cells more inputs) where
       came-traffic : traffic_in more (stream_count streams) ≡ waiting
       came-traffic = came.traffic ∙ ap (arrivals streams) road.traffic
 
       pub came-inputs : inputs ≡ inputs_of streams waiting
       came-inputs = came.word ∙ ap (λ (t : List Traffic). inputs_of streams (arrivals streams t)) road.traffic
 
-      more-held : (i : ℕ) → i < stream_count streams → traffic_at more i ≡ arrived (stream_at streams i).rate (traffic_of (road_after b streams n).traffic i)
+      more-held : (i : ℕ) → i < stream_count streams → traffic_of more i ≡ arrived (stream_at streams i).rate (traffic_of (road_after b streams n).traffic i)
       more-held i l =
           sym (held_at more (stream_count streams) i l)
           ∙ ap (λ (t : List Traffic). traffic_of t i) came-traffic
@@ -130,7 +130,7 @@ module _ {b streams : List ℕ} {steps : ℕ} {site : Site} {n : ℕ} {state : K
           rw (shown-at (site_of b) core (stream_at streams i).group group) (sym (shown (stream_at streams i).group group (known.each i l).vehicle))
 
       pub next-road :
-          {next : KeptState} {greens : ℕ} {last : List ℕ} →
+          {next : KeptState} {greens : ℕ} {last : List Traffic} →
           next ≡ kept_stepped site state inputs →
           GreenIn site next.core greens →
           ReleasedIn streams greens more last →

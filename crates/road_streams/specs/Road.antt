@@ -1,8 +1,7 @@
 -- Request eight of document 02: vehicles on a simulated road. Streams join queues and leave them, and the controller runs from the fresh state on what its
 -- detectors see of the queues. Each step of the controller is a step call of the rules, by the personality's own times.
-use Rattle.std.specs.Prelude.{ℕ, zero, suc, ◌+◌, ◌-◌, ◌*◌, ◌/◌, ◌%◌, ◌^◌, Bool, not, ◌&&◌, ◌||◌, List, ◌++◌, eqb, ltb, length, drop, get_or, replicate, if◌then◌else◌}
-use Rattle.rules.specs.declared.answer.Verdict.{Verdict}
-use Rattle.rules.specs.declared.answer.Verdict.TheVariants.{Accepted, Refused}
+use Rattle.std.specs.Prelude.{ℕ, zero, suc, ◌+◌, ◌-◌, ◌*◌, ◌/◌, ◌%◌, ◌^◌, Bool, not, ◌&&◌, ◌||◌, List, ◌++◌, eqb, ltb, length, drop, get_or, replicate, if◌then◌else◌, Ok, Err}
+use Rattle.rules.specs.Verdicts.{Verdict}
 use Rattle.rules.specs.declared.site.Site.{Site}
 use Rattle.rules.specs.declared.state.KeptState.{KeptState}
 use Rattle.laws.specs.Folds.{any_of, sum_of, list_of}
@@ -151,8 +150,8 @@ results_of streams traffic = parts_of (λ i. result_of (traffic_of traffic i)) (
 
 -- the result buffer: the results from its start on, and the bytes past them untouched; all of it untouched on a refusal
 unfoldable pub results_for : Verdict → List ℕ → List ℕ → List ℕ
-results_for Accepted results old = results ++ drop (length results) old
-results_for (Refused number place) results old = old
+results_for (Ok _) results old = results ++ drop (length results) old
+results_for (Err r) results old = old
 
 unfoldable pub road_results : List ℕ → List ℕ → ℕ → Bool → List ℕ → List ℕ
 road_results b streams steps state_fits old =

@@ -4,10 +4,9 @@
 ghost use Rattle.std.specs.Prelude.{ℕ, ◌+◌, ◌*◌, ◌≤◌, ◌<◌, ◌&&◌, ◌≡◌, eqb, length, if◌then◌else◌};
 ghost use Rattle.laws.specs.Folds.{any_of};
 ghost use Rattle.rules.specs.Colours.{green};
-ghost use Rattle.rules.specs.Laws.{Sound};
 ghost use Rattle.road_streams.specs.Road.{stream_count, stream_at, vehicle_group, bad_stream, bad_streams, queues, arrived, released};
 
-use rules::site::Site;
+use site_sound::SoundSite;
 
 // A stream: the detector that sees its queue, the group that lets it go, and its vehicles an hour.
 #[derive(Clone, Copy)]
@@ -25,6 +24,25 @@ pub struct Traffic {
     pub gone: u16,
     pub count: u16,
 }
+
+impl Traffic {
+    // The traffic of a stream before the first step.
+    pub const NONE: Traffic = Traffic {
+        remainder: 0,
+        queued: 0,
+        gone: 0,
+        count: 0,
+    };
+}
+
+// A road has no more streams.
+const MOST_STREAMS: usize = 48;
+
+// A vehicle joins for each 36,000 of the sum of the rates: a rate is vehicles an hour, and an hour has 36,000 steps.
+const HOUR: u16 = 36000;
+
+// A vehicle leaves on this green step.
+const HEADWAY: u16 = 20;
 
 // Stream i of the bytes.
 pub fn stream_at(streams: &[u8], i: usize) -> Stream
@@ -45,19 +63,16 @@ pub fn arrived(rate: u16, traffic: Traffic) -> Traffic
     ensures { result ≡ arrived rate traffic }
 {
     let sum = traffic.remainder + rate;
-    if sum < 36000 {
+    if sum < HOUR {
         return Traffic {
             remainder: sum,
-            queued: traffic.queued,
-            gone: traffic.gone,
-            count: traffic.count,
+            ..traffic
         };
     }
     Traffic {
-        remainder: sum - 36000,
+        remainder: sum - HOUR,
         queued: traffic.queued + 1,
-        gone: traffic.gone,
-        count: traffic.count,
+        ..traffic
     }
 }
 
@@ -66,10 +81,11 @@ fn count_after(shows_green: bool, traffic: Traffic) -> u16
     requires { traffic.count < 20 }
     ensures { result ≡ (if shows_green && queues traffic then traffic.count + 1 else 0) }
 {
-    if shows_green & (0 < traffic.queued) {
-        return traffic.count + 1;
+    if shows_green && 0 < traffic.queued {
+        traffic.count + 1
+    } else {
+        0
     }
-    0
 }
 
 // What the stream's group does, by whether it shows green. The 20th step that is counted releases one vehicle, and the count is 0.
@@ -78,72 +94,47 @@ pub fn released(shows_green: bool, traffic: Traffic) -> Traffic
     ensures { (colour : ℕ) → eqb colour green ≡ shows_green → result ≡ released colour traffic }
 {
     let count = count_after(shows_green, traffic);
-    if count == 20 {
+    if count == HEADWAY {
         return Traffic {
-            remainder: traffic.remainder,
             queued: traffic.queued - 1,
             gone: traffic.gone + 1,
             count: 0,
+            ..traffic
         };
     }
-    Traffic {
-        remainder: traffic.remainder,
-        queued: traffic.queued,
-        gone: traffic.gone,
-        count,
-    }
+    Traffic { count, ..traffic }
 }
 
 // Whether group g is a vehicle group of the site.
-fn vehicle_group(site: Site, g: u8) -> bool
-    requires { Sound site }
-    ensures { result ≡ vehicle_group site g }
+fn vehicle_group(site: &SoundSite, g: u8) -> bool
+    ensures { result ≡ vehicle_group site.now g }
 {
-    if g < site.size.groups {
-        let groups = site.groups;
-        let group = groups[g as usize];
-        return group.mark != 2;
-    }
-    false
+    let own = &site.site;
+    g < own.size.groups && own.groups[usize::from(g)].mark != 2
 }
 
 // Whether a stream has a rate above 1,800, or a detector or vehicle group that the site does not have.
-fn bad_stream(site: Site, stream: Stream) -> bool
-    requires { Sound site }
-    ensures { result ≡ bad_stream site stream }
+fn bad_stream(site: &SoundSite, stream: Stream) -> bool
+    ensures { result ≡ bad_stream site.now stream }
 {
-    let known = vehicle_group(site, stream.group);
-    (1800 < stream.rate) | !(stream.detector < site.size.detectors) | !known
+    1800 < stream.rate
+        || stream.detector >= site.site.size.detectors
+        || !vehicle_group(site, stream.group)
 }
 
 // Whether some stream is bad.
-fn some_bad(site: Site, streams: &[u8]) -> bool
-    requires { Sound site }
-    ensures { result ≡ any_of (λ i. bad_stream site (stream_at streams.now i)) (stream_count streams.now) }
+fn some_bad(site: &SoundSite, streams: &[u8]) -> bool
+    ensures { result ≡ any_of (λ i. bad_stream site.now (stream_at streams.now i)) (stream_count streams.now) }
 {
-    let count = streams.len() / 4;
-    let mut bad = false;
-    let mut i: usize = 0;
-    while i < count {
-        bad = bad | bad_stream(site, stream_at(streams, i));
-        i += 1;
-    }
-    bad
+    (0..streams.len() / 4).any(|i| bad_stream(site, stream_at(streams, i)))
 }
 
 // 22: the bytes are not whole streams, there are more than 48 streams or more than 180,000 steps, or a stream is bad.
-pub fn bad_streams(site: Site, streams: &[u8], steps: u32) -> bool
-    requires { Sound site }
-    ensures { result ≡ bad_streams site streams.now steps }
+pub fn bad_streams(site: &SoundSite, streams: &[u8], steps: u32) -> bool
+    ensures { result ≡ bad_streams site.now streams.now steps }
 {
-    if streams.len() % 4 != 0 {
-        return true;
-    }
-    if 48 < streams.len() / 4 {
-        return true;
-    }
-    if 180000 < steps {
-        return true;
-    }
-    some_bad(site, streams)
+    streams.len() % 4 != 0
+        || MOST_STREAMS < streams.len() / 4
+        || 180000 < steps
+        || some_bad(site, streams)
 }

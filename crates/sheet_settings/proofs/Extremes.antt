@@ -4,8 +4,10 @@ use Prim.Native.Nat.{ℕ, zero, suc, ◌+◌, ◌≤◌, ◌<◌}
 use mathlib.Core.Bool.{Bool, true, false}
 use mathlib.Core.Logic.{⊎_elim}
 use mathlib.Core.Path.{◌≡◌, refl, sym}
+use native.Mathlib.Omega.{arith}
 use native.Mathlib.Nat.{add-zero, add-suc, suc-add, eq-or-lt_of_le, le_antisymm}
-use Rattle.std.specs.Prelude.{if◌then◌else◌}
+use Rattle.std.specs.Prelude.{if◌then◌else◌, Option, Some, None, unwrap_or}
+use Rattle.std.specs.Option.{MatchOption}
 use Rattle.laws.proofs.Booleans.{never_both}
 use Rattle.laws.proofs.Indices.{below-or-past, below_more, fails-to}
 use Rattle.sheet_settings.specs.Extremes.{Largest, Smallest, largest_to, smallest_from}
@@ -56,3 +58,16 @@ smallest-found p first (suc tries) last before =
         Smallest p (if t then first else smallest_from (suc first) tries p)
     go true e after = record { passed = e; none-smaller = before }
     go false e after = after (below_more (λ k. p k ≡ false) first before e)
+
+-- what `find` tells of the numbers below one that passes, which is the answer where none of them does
+pub first-smallest :
+    (p : ℕ → Bool) (last : ℕ) (r : Option ℕ) →
+    p last ≡ true →
+    MatchOption r
+    ((k : ℕ) → 0 ≤ k → k < last → k ≤ last → p k ≡ false)
+    (λ i. (0 ≤ i) × (i < last) × (i ≤ last → p i ≡ true) × ((k : ℕ) → 0 ≤ k → k < i → k ≤ last → p k ≡ false)) →
+    Smallest p (unwrap_or r last)
+first-smallest p last None passes f = record { passed = passes; none-smaller = λ k l. f k (omega arith) l (omega arith) }
+first-smallest p last (Some i) passes f =
+    let here : i < last = f.1 in
+    record { passed = f.2 (omega arith); none-smaller = λ k l. f.3 k (omega arith) l (omega arith) }

@@ -1,27 +1,26 @@
 -- The computed answer is the one that document 02 states, and there is no other. More than 50 vehicles never stand in 300 m, so the search for n starts above
 -- every number that passes; 540 steps at 20 km/h or more always cover 300 m, so the search for t ends at one that passes.
-use Prim.Native.Nat.{ℕ, ◌+◌, ◌*◌, ◌≤◌}
-use mathlib.Core.Bool.{Bool, true, false, ◌&&◌}
-use mathlib.Core.Path.{◌≡◌, refl, sym, ◌∙◌}
+use Prim.Native.Nat.{ℕ, zero, suc, ◌+◌, ◌*◌, ◌≤◌, ◌<◌}
+use mathlib.Core.Bool.{Bool, true, false, not, ◌&&◌}
+use mathlib.Core.Path.{◌≡◌, refl, sym, ap, ◌∙◌}
 use native.Mathlib.Nat.{zero-mul, mul-le-mul, mul-le-mul_right, le_of_mul-le-mul_right, le_trans}
+use native.Mathlib.Numerals.{add-one}
 use native.Mathlib.Omega.{arith}
 use lib.Dec.{leb}
 use lib.IntN.{pos}
 use lib.Ieee.{Float, fin, binary64, le, mul, of_int}
 use lib.Ieee.Positive.{num, den, den_pos}
-use borrow.Author.Tests.{leb-true, le-leb}
+use borrow.Author.Tests.{leb-true, le-leb, not-true, not-false}
 use Rattle.std.specs.Prelude.{if◌then◌else◌}
 use Rattle.rules.specs.declared.site.Edition.{Edition}
 use Rattle.rules.specs.declared.site.Edition.TheVariants.{One, Two}
 use Rattle.rules.specs.Limits.{limits, limit_of, within, phase_settings}
 use Rattle.laws.proofs.Booleans.{and_left, and_right, and_both, never_both, not-true-false}
-use Rattle.sheet_settings.specs.declared.Answer.{Answer}
-use Rattle.sheet_settings.specs.declared.Answer.TheVariants.{Settings, Refused}
 use Rattle.sheet_settings.specs.declared.Detector.{Detector}
 use Rattle.sheet_settings.specs.declared.Detector.TheVariants.{Advance, StopLine}
 use Rattle.sheet_settings.specs.declared.Sheet.{Sheet}
 use Rattle.sheet_settings.specs.Extremes.{Largest, Smallest}
-use Rattle.sheet_settings.specs.Sheet.{whole, metres_of, speed_in_range, metres_in_range, in_range, stand, covered, vehicles, minimum_green, passage_over, passage_time, highest_minimum, highest_gap, within_limits, MinimumGreen, PassageTime, SettingsFor, AnswerFor, out_of_range, above_limits, given, answer_from, answer_of, AsStated, MayHave, Admitted}
+use Rattle.sheet_settings.specs.Sheet.{Answer, Settings, Refused, minimum_of, passage_of, whole, metres_of, speed_in_range, metres_in_range, in_range, stand, covered, vehicles, minimum_green, passage_over, passage_time, highest_minimum, highest_gap, within_limits, MinimumGreen, PassageTime, SettingsFor, AnswerFor, out_of_range, above_limits, given, answer_from, answer_of, AsStated, MayHave, Admitted}
 use Rattle.sheet_settings.proofs.Extremes.{largest-only, smallest-only, largest-found, smallest-found}
 use Rattle.sheet_settings.proofs.Metres.{cast-le, le-cast, times-36, Fraction, as-fraction}
 
@@ -74,6 +73,17 @@ module _ {x : Float} (fraction : Fraction x) where
     passed = t;
     none-greater = λ k l. not-true-false (stand x k) (λ s. never_both (stands-lower (n + 1) k (omega arith) s) f);
   }
+
+  -- none of 51 vehicles, and the first number of which one more does not stand is the largest
+  pub stands-none-above : not (stand x 51) ≡ true
+  stands-none-above = ap not (not-true-false (stand x 51) (λ s. let m = stands-most 51 s in omega arith))
+
+  pub stands-until : (n : ℕ) → Smallest (λ k. not (stand x (k + 1))) n → Largest (stand x) n
+  stands-until n first = stands-largest n (before n first.none-smaller) (not-true _ first.passed)
+    where
+      before : (n : ℕ) → ((k : ℕ) → k < n → not (stand x (k + 1)) ≡ false) → stand x n ≡ true
+      before zero none = stands-first
+      before (suc k) none = rw add-one at (not-false _ (none k (omega arith)))
 
   pub vehicles-largest : Largest (stand x) (vehicles x)
   unfolding vehicles
@@ -131,7 +141,7 @@ unfolding highest_gap limit_of limits
 gap-limits One = (refl, refl)
 gap-limits Two = (refl, refl)
 
-within-each : (edition : Edition) (m g : ℕ) → within_limits edition m g ≡ (leb m 400 && leb g 100)
+pub within-each : (edition : Edition) (m g : ℕ) → within_limits edition m g ≡ (leb m 400 && leb g 100)
 unfolding within_limits
 within-each edition m g = rw ((green-limits edition).1, (gap-limits edition).1)
 
@@ -189,19 +199,13 @@ settings-admitted {s} {m} {g} edition f e =
     )
 
 pub admitted : Admitted
-unfolding Admitted
+unfolding Admitted minimum_of passage_of
 admitted edition s m g h = go (answer-stated s) h
   where
     go : {a : Answer} → AnswerFor s a → a ≡ Settings m g → MayHave edition m g
     go (out_of_range e) h = (cc, cc)
     go (above_limits other k t f e) h = (cc, cc)
     go (given k t f e) h =
-        let p : k ≡ m = cc in
-        let q : t ≡ g = cc in
+        let p : k ≡ m = ap minimum_of h in
+        let q : t ≡ g = ap passage_of h in
         rw (p, q) at (settings-admitted edition f (e edition))
-
--- both refusals have the place 0
-pub refused-place : {s : Sheet} {a : Answer} {number place : ℕ} → AnswerFor s a → a ≡ Refused number place → place ≡ 0
-refused-place (out_of_range e) h = cc
-refused-place (above_limits edition m g f e) h = cc
-refused-place (given m g f e) h = cc

@@ -1,16 +1,16 @@
 -- Request six of document 02: the settings of a site sheet, by source document 002. Metres are binary64 values; a whole number beside
 -- them is that number, unrounded.
-use Rattle.std.specs.Prelude.{ℕ, ◌+◌, ◌*◌, Bool, true, false, ◌&&◌, ◌≡◌, leb, if◌then◌else◌, pos, Float}
+use Rattle.std.specs.Prelude.{ℕ, ◌+◌, ◌*◌, Bool, true, false, ◌&&◌, ◌≡◌, leb, if◌then◌else◌, pos, Float, Result, Ok, Err}
 use Rattle.std.specs.Float.{fin, binary64}
 use Rattle.std.specs.Float.Ieee.{le, mul}
+use Rattle.rules.specs.declared.answer.Refusal.{Refusal}
 use Rattle.rules.specs.declared.answer.Report.{Report}
 use Rattle.rules.specs.declared.site.Edition.{Edition}
 use Rattle.rules.specs.declared.site.Edition.TheVariants.{One}
 use Rattle.rules.specs.Limits.{limits, limit_of, within, phase_settings}
-use Rattle.sheet_settings.specs.declared.Answer.{Answer}
-use Rattle.sheet_settings.specs.declared.Answer.TheVariants.{Settings, Refused}
 use Rattle.sheet_settings.specs.declared.Detector.{Detector}
 use Rattle.sheet_settings.specs.declared.Detector.TheVariants.{Advance, StopLine}
+use Rattle.sheet_settings.specs.declared.SheetSettings.{SheetSettings}
 use Rattle.sheet_settings.specs.declared.Sheet.{Sheet}
 use Rattle.sheet_settings.specs.Extremes.{Largest, Smallest, largest_to, smallest_from}
 
@@ -55,7 +55,16 @@ abbrev pub PassageTime : ℕ → Detector → ℕ → Type 0
 PassageTime speed (Advance metres) t = Smallest (covered speed metres) t
 PassageTime speed (StopLine metres) t = t ≡ 0
 
--- ── The answer ──
+-- ── The answer: settings, or a refusal with its number and place ──
+
+abbrev pub Answer : Type 0
+Answer = Result SheetSettings Refusal
+
+abbrev pub Settings : ℕ → ℕ → Answer
+Settings minimum passage = Ok (record { minimum = minimum; passage = passage })
+
+abbrev pub Refused : ℕ → ℕ → Answer
+Refused number place = Err (record { number = number; place = place })
 
 -- the highest M and the highest G of an edition of the limits
 unfoldable pub highest_minimum : Edition → ℕ
@@ -82,16 +91,16 @@ pub data AnswerFor (s : Sheet) : Answer → Type 0 where
 
 -- The paper's number and place for each answer, and the settings that it gives.
 unfoldable pub settings_report_of : Answer → Report
-settings_report_of (Settings minimum passage) = record { number = 0; place = 0 }
-settings_report_of (Refused number place) = record { number = number; place = place }
+settings_report_of (Ok s) = record { number = 0; place = 0 }
+settings_report_of (Err r) = record { number = r.number; place = r.place }
 
 unfoldable pub minimum_of : Answer → ℕ
-minimum_of (Settings minimum passage) = minimum
-minimum_of (Refused number place) = 0
+minimum_of (Ok s) = s.minimum
+minimum_of (Err r) = 0
 
 unfoldable pub passage_of : Answer → ℕ
-passage_of (Settings minimum passage) = passage
-passage_of (Refused number place) = 0
+passage_of (Ok s) = s.passage
+passage_of (Err r) = 0
 
 -- ── The answer, computed. No more than 50 vehicles stand in 300 m, and 300 m at 20 km/h take 540 steps; the limits of M and G are the same in
 -- both editions, so one is asked ──

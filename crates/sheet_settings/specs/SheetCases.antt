@@ -3,10 +3,8 @@ use Rattle.std.specs.Prelude.{ℕ, List, [], ◌∷◌, ◌≡◌, pos, Float}
 use Rattle.std.specs.Float.{binary64}
 use Rattle.std.specs.Float.Ieee.{of_int, of_bits}
 use Rattle.rules.specs.CallCases.{AllHold}
-use Rattle.sheet_settings.specs.declared.Answer.{Answer}
-use Rattle.sheet_settings.specs.declared.Answer.TheVariants.{Settings, Refused}
 use Rattle.sheet_settings.specs.declared.Detector.TheVariants.{Advance, StopLine}
-use Rattle.sheet_settings.specs.Sheet.{answer_of}
+use Rattle.sheet_settings.specs.Sheet.{Answer, Settings, Refused, answer_of}
 
 -- metres as a whole number, and by their 64 bits
 abbrev pub metres : ℕ → Float

@@ -1,19 +1,20 @@
 -- The computed answer is the one that document 02 states, there is no other, and it is the entry of the table. In range 76 is never below the fraction, so the
 -- search for t ends at a number that passes.
-use Prim.Native.Nat.{ℕ, ◌+◌, ◌-◌, ◌*◌, ◌/◌, ◌≤◌, ◌<◌, max}
+use Prim.Native.Nat.{ℕ, ◌+◌, ◌-◌, ◌*◌, ◌≤◌, ◌<◌, max}
 use mathlib.Core.Bool.{Bool, true, false}
 use mathlib.Core.Path.{◌≡◌, refl, sym, ap, ◌∙◌, subst}
 use native.Mathlib.Nat.{mul-le-mul_right, div-mul-le_self, lt-div-mul-add}
 use native.Mathlib.Omega.{arith}
 use lib.Dec.{leb}
-use lib.IntN.{ℤ, pos}
+use lib.IntN.{ℤ}
 use borrow.Author.Tests.{leb-true, le-leb, lt-leb}
+use Rattle.std.specs.Int.{div_ceil}
+use Rattle.std.proofs.lemmas.Grind.{div_ceil_times}
+use Rattle.std.proofs.lemmas.Nat.{div-mul-add}
 use Rattle.laws.proofs.Booleans.{and_left, and_right}
 use Rattle.sheet_settings.specs.Extremes.{Smallest}
 use Rattle.sheet_settings.proofs.Extremes.{smallest-only, smallest-found}
-use Rattle.sheet_yellow.specs.declared.Answer.{Answer}
-use Rattle.sheet_yellow.specs.declared.Answer.TheVariants.{Yellow, Refused}
-use Rattle.sheet_yellow.specs.Yellow.{speed_in_range, grade_in_range, in_range, not_below, YellowTime, AnswerFor, out_of_range, given, rounded_up, yellow_time, answer_of, AsStated}
+use Rattle.sheet_yellow.specs.Yellow.{Answer, Yellow, Refused, speed_in_range, grade_in_range, in_range, not_below, YellowTime, AnswerFor, out_of_range, given, rounded_up, yellow_time, answer_of, AsStated}
 use Rattle.sheet_yellow.specs.Columns.{column_of, divisor_at, ceiling, entry_at}
 use Rattle.sheet_yellow.proofs.Shift.{divisor-shifted}
 
@@ -60,6 +61,14 @@ ceiling-least a b k h l =
     let m = mul-le-mul_right b l in
     let n = div-mul-le_self (a + (b - 1)) b in
     omega arith
+
+-- what `div_ceil` gives
+pub ceiling-is : (a b : ℕ) → 0 < b → div_ceil a b ≡ ceiling a b
+ceiling-is a b h =
+    let c = div_ceil a b in
+    let t = div_ceil_times a b h in
+    let e : c * b + (a + (b - 1) - c * b) ≡ a + (b - 1) = omega (arith, t) in
+    sym (rw e at (div-mul-add c b (a + (b - 1) - c * b) (omega (arith, t))))
 
 ceiling-smallest : (s : ℕ) (g : ℤ) → grade_in_range g ≡ true → Smallest (not_below s g) (ceiling (100000 * s) (divisor_at (column_of g)))
 ceiling-smallest s g h =
@@ -124,8 +133,3 @@ promise-given s g steps e time = (answer-only s g (Yellow steps) (given steps e 
 pub entry-stated : (s : ℕ) (g : ℤ) (steps : ℕ) → in_range s g ≡ true → steps ≡ entry_at s (column_of g) → YellowTime s g steps
 entry-stated s g steps e p =
     subst (λ (y : ℕ). YellowTime s g y) (time-at s g e ∙ sym p) (time-stated s g e)
-
--- a refusal has the place 0
-pub refused-place : {s : ℕ} {g : ℤ} {a : Answer} {number place : ℕ} → AnswerFor s g a → a ≡ Refused number place → place ≡ 0
-refused-place (out_of_range e) h = cc
-refused-place (given steps e time) h = cc

@@ -1,6 +1,6 @@
 -- A higher speed raises the fraction and a higher grade lowers it, so that the smallest number not below it follows; and 76 is never below it.
-use Prim.Native.Nat.{ℕ, ◌+◌, ◌*◌, ◌≤◌, max}
-use mathlib.Core.Bool.{Bool, true, false}
+use Prim.Native.Nat.{ℕ, ◌+◌, ◌≤◌}
+use mathlib.Core.Bool.{true, false}
 use mathlib.Core.Path.{◌≡◌, refl}
 use native.Mathlib.Nat.{mul-le-mul_left, le_trans}
 use native.Mathlib.Omega.{arith}
@@ -11,9 +11,7 @@ use Rattle.rules.specs.declared.site.Edition.TheVariants.{One, Two}
 use Rattle.rules.specs.Limits.{limits, limit_of, within, phase_settings}
 use Rattle.laws.proofs.Booleans.{and_both, never_both}
 use Rattle.laws.proofs.Indices.{fails-to}
-use Rattle.sheet_yellow.specs.declared.Answer.{Answer}
-use Rattle.sheet_yellow.specs.declared.Answer.TheVariants.{Yellow, Refused}
-use Rattle.sheet_yellow.specs.Yellow.{in_range, not_below, YellowTime, AnswerFor, out_of_range, given, answer_of}
+use Rattle.sheet_yellow.specs.Yellow.{Answer, Yellow, Refused, in_range, not_below, YellowTime, AnswerFor, out_of_range, given, answer_of}
 use Rattle.sheet_yellow.specs.YellowLaws.{NeverFallsWithSpeed, NeverRisesWithGrade, Admitted}
 use Rattle.sheet_yellow.specs.Columns.{column_of, divisor_at}
 use Rattle.sheet_yellow.proofs.Shift.{column-order}

@@ -1,11 +1,10 @@
 -- Request nine of document 02: the yellow time by speed and grade. The speed is in whole km/h, the grade in whole percent, uphill
 -- positive.
-use Rattle.std.specs.Prelude.{ℕ, ◌+◌, ◌-◌, ◌*◌, max, Bool, true, false, ◌&&◌, List, ◌≡◌, leb, length, get_or, if◌then◌else◌, ℤ, pos, negsuc, nat_abs, ◌+ℤ◌, ◌*ℤ◌}
+use Rattle.std.specs.Prelude.{ℕ, ◌+◌, ◌-◌, ◌*◌, max, Bool, true, false, ◌&&◌, List, ◌≡◌, leb, length, get_or, if◌then◌else◌, ℤ, pos, negsuc, nat_abs, ◌+ℤ◌, ◌*ℤ◌, Result, Ok, Err}
 use Rattle.std.specs.Int.Signed.{le_z}
+use Rattle.rules.specs.declared.answer.Refusal.{Refusal}
 use Rattle.rules.specs.declared.answer.Report.{Report}
 use Rattle.sheet_settings.specs.Extremes.{Smallest, smallest_from}
-use Rattle.sheet_yellow.specs.declared.Answer.{Answer}
-use Rattle.sheet_yellow.specs.declared.Answer.TheVariants.{Yellow, Refused}
 
 -- ── The ranges, number 23 ──
 
@@ -35,7 +34,16 @@ pub record YellowTime (speed : ℕ) (grade : ℤ) (steps : ℕ) : Type 0 where
   pub smallest : Smallest (not_below speed grade) t
   pub formula : steps ≡ max 30 (10 + t)
 
--- ── The answer ──
+-- ── The answer: a yellow time, or a refusal with its number and place ──
+
+abbrev pub Answer : Type 0
+Answer = Result ℕ Refusal
+
+abbrev pub Yellow : ℕ → Answer
+Yellow steps = Ok steps
+
+abbrev pub Refused : ℕ → ℕ → Answer
+Refused number place = Err (record { number = number; place = place })
 
 pub data AnswerFor (speed : ℕ) (grade : ℤ) : Answer → Type 0 where
   out_of_range : in_range speed grade ≡ false → AnswerFor speed grade (Refused 23 0)
@@ -43,12 +51,12 @@ pub data AnswerFor (speed : ℕ) (grade : ℤ) : Answer → Type 0 where
 
 -- The paper's number and place for each answer, and the yellow time that it gives.
 unfoldable pub yellow_report_of : Answer → Report
-yellow_report_of (Yellow steps) = record { number = 0; place = 0 }
-yellow_report_of (Refused number place) = record { number = number; place = place }
+yellow_report_of (Ok steps) = record { number = 0; place = 0 }
+yellow_report_of (Err r) = record { number = r.number; place = r.place }
 
 unfoldable pub steps_of : Answer → ℕ
-steps_of (Yellow steps) = steps
-steps_of (Refused number place) = 0
+steps_of (Ok steps) = steps
+steps_of (Err r) = 0
 
 -- ── The answer, computed. In range the fraction is never above 76 ──
 

@@ -1,9 +1,7 @@
 -- Worked cases, in a single list with one statement: each of them holds.
 use Rattle.std.specs.Prelude.{ℕ, List, [], ◌∷◌, ◌≡◌, ℤ, pos, negsuc}
 use Rattle.rules.specs.CallCases.{AllHold}
-use Rattle.sheet_yellow.specs.declared.Answer.{Answer}
-use Rattle.sheet_yellow.specs.declared.Answer.TheVariants.{Yellow, Refused}
-use Rattle.sheet_yellow.specs.Yellow.{answer_of}
+use Rattle.sheet_yellow.specs.Yellow.{Answer, Yellow, Refused, answer_of}
 
 -- the speed, the grade and the answer; `negsuc n` is −(n + 1)
 pub data Case : Type 0 where

@@ -3,8 +3,7 @@ use Rattle.std.specs.Prelude.{ℕ, ◌+◌, ◌≤◌, true, ◌≡◌, ℤ}
 use Rattle.std.specs.Int.Signed.{le_z}
 use Rattle.rules.specs.declared.site.Edition.{Edition}
 use Rattle.rules.specs.Limits.{limits, within, phase_settings}
-use Rattle.sheet_yellow.specs.declared.Answer.TheVariants.{Yellow}
-use Rattle.sheet_yellow.specs.Yellow.{answer_of}
+use Rattle.sheet_yellow.specs.Yellow.{Yellow, answer_of}
 
 -- at one grade, a higher speed never has a shorter yellow
 unfoldable pub NeverFallsWithSpeed : Type 0

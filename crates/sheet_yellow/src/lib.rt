@@ -6,6 +6,8 @@ ghost use Rattle.std.specs.Prelude.{true, ◌≡◌};
 ghost use Rattle.sheet_yellow.specs.Yellow.{grade_in_range, in_range, answer_of, AnswerFor, FollowsTheRule};
 ghost use Rattle.sheet_yellow.specs.Columns.{column_of};
 
+use rules::answer::Refusal;
+
 pub mod rule;
 
 // The yellow time at each speed from 40 to 110 km/h, and at each speed for the grades from -10 to 10 percent. `run_yellow` prints these
@@ -155,17 +157,11 @@ const YELLOW: [u8; 1491] = [
     86, 83, 79, 77, 74, 71, 69, 67, 65, 63, 61, 60, 58, 57, 56, 54, 53, 52, 51, 50, 49,
 ];
 
-#[derive(Clone, Copy)]
-pub enum Answer {
-    Yellow { steps: u8 },
-    Refused { number: u8, place: usize },
-}
-
-// Whether the speed is from 40 to 110 and the grade from -10 to 10.
+// Whether the speed is from 40 to 110 and the grade from -10 to 10. (As `(40..=110).contains(&speed)` the goals of the four cases did not close.)
 fn in_range(speed: u32, grade: i32) -> bool
     ensures { result ≡ in_range speed grade }
 {
-    ((40 <= speed) & (speed <= 110)) & ((-10 <= grade) & (grade <= 10))
+    40 <= speed && speed <= 110 && -10 <= grade && grade <= 10
 }
 
 // The column of a grade: 0 for -10, 20 for 10.
@@ -184,18 +180,17 @@ pub fn table() -> [u8; 1491]
 }
 
 // The yellow time at a speed and a grade, looked up in the table. 23 if either is out of range.
-pub fn yellow(speed: u32, grade: i32) -> Answer
+pub fn yellow(speed: u32, grade: i32) -> Result<u8, Refusal>
     ensures { (result ≡ answer_of speed grade) × AnswerFor speed grade result }
 {
     if !in_range(speed, grade) {
-        return Answer::Refused {
+        return Err(Refusal {
             number: 23,
             place: 0,
-        };
+        });
     }
     let row = (speed - 40) as usize;
     let column = column_of(grade);
     let table = table();
-    let steps = table[21 * row + column];
-    Answer::Yellow { steps }
+    Ok(table[21 * row + column])
 }

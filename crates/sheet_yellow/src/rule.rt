@@ -1,18 +1,10 @@
 // The rule by which the table is made. Nothing here reads the table.
-ghost use Rattle.std.specs.Prelude.{◌+◌, ◌<◌, ◌^◌, ◌≡◌};
+ghost use Rattle.std.specs.Prelude.{◌<◌, ◌≡◌};
 ghost use Rattle.sheet_yellow.specs.Yellow.{answer_of, AnswerFor};
-ghost use Rattle.sheet_yellow.specs.Columns.{ceiling, entry_at};
+ghost use Rattle.sheet_yellow.specs.Columns.{entry_at};
 
-use crate::{Answer, column_of, in_range};
-
-// a / b rounded up.
-fn ceiling(a: u32, b: u32) -> u32
-    requires b_nonzero { 0 < b }
-    requires b_bound { a + b < 2 ^ 32 }
-    ensures { result ≡ ceiling a b }
-{
-    (a + (b - 1)) / b
-}
+use crate::{column_of, in_range};
+use rules::answer::Refusal;
 
 // The entry at a speed and a column: the greater of 30 and 10 + the fraction rounded up. 36 × (6,000 + 196 × grade) is
 // 36 × (4,040 + 196 × column).
@@ -22,21 +14,19 @@ fn entry_at(speed: u32, column: usize) -> u8
     ensures { result ≡ entry_at speed column }
 {
     let divisor = 36 * (4040 + 196 * (column as u32));
-    let steps = 10 + ceiling(100000 * speed, divisor);
-    if steps < 30 { 30 } else { steps as u8 }
+    let steps = 10 + (100000 * speed).div_ceil(divisor);
+    steps.max(30) as u8
 }
 
 // The yellow time at a speed and a grade, computed. The generator of the table prints it.
-pub fn by_rule(speed: u32, grade: i32) -> Answer
+pub fn by_rule(speed: u32, grade: i32) -> Result<u8, Refusal>
     ensures { (result ≡ answer_of speed grade) × AnswerFor speed grade result }
 {
     if !in_range(speed, grade) {
-        return Answer::Refused {
+        return Err(Refusal {
             number: 23,
             place: 0,
-        };
+        });
     }
-    Answer::Yellow {
-        steps: entry_at(speed, column_of(grade)),
-    }
+    Ok(entry_at(speed, column_of(grade)))
 }
