@@ -6,7 +6,9 @@ use mathlib.Core.List.{List, [], ◌++◌}
 use mathlib.Core.Path.{◌≡◌, refl, subst⁻¹}
 use lib.ListN.{length, drop}
 use borrow.Author.Tests.{le-ltb, lt-ltb}
-use Rattle.rules.specs.declared.answer.Verdict.TheVariants.{Accepted, Refused}
+use Rattle.std.specs.Prelude.{Err}
+use Rattle.rules.specs.declared.answer.Refusal.{Refusal}
+use Rattle.rules.specs.Verdicts.{Accepted, Refused}
 use Rattle.rules.specs.declared.site.Site.{Site}
 use Rattle.rules.specs.declared.state.KeptState.{KeptState}
 use Rattle.rules.specs.Verdicts.{◌or_else◌, refuse_if}
@@ -31,7 +33,7 @@ use Rattle.board_panel.specs.Explains.{PutIn}
 module _ (b state : List ℕ) (inputs : ℕ) where
   -- ── The checks ──
 
-  pub refused : {number place : ℕ} → verdict_of b ≡ Refused number place → length_checks b state inputs ≡ Refused number place
+  pub refused : {r : Refusal} → verdict_of b ≡ Err r → length_checks b state inputs ≡ Err r
   unfolding length_checks ◌or_else◌
   refused e = rw e
 

@@ -1,7 +1,7 @@
 -- The calls for the panel's line with the state as bytes: one answers how many bytes it has, and the other also writes it to the start of a buffer.
 -- Their arguments are personality, state, input bits, and the buffer or its length.
 use Rattle.std.specs.Prelude.{ℕ, not, List, ◌++◌, ltb, length, drop}
-use Rattle.rules.specs.declared.answer.Verdict.{Verdict}
+use Rattle.rules.specs.Verdicts.{Verdict}
 use Rattle.rules.specs.Verdicts.{◌or_else◌, refuse_if}
 use Rattle.rules.specs.Personality.{verdict_of}
 use Rattle.rules.specs.Site.{site_of}

@@ -6,57 +6,46 @@ ghost use Rattle.panel_line.specs.Reasons.{line_of};
 ghost use Rattle.board_panel.specs.PanelCall.{why_length_answer, why_answer, line_after};
 ghost use Rattle.board_panel.specs.Explains.{Explains, PutIn};
 
+use base_intervals::is_running;
 use board_answers::{packed, refusal};
 use panel_line::{Why, line_length, put_line};
-use rules::answer::Verdict;
-use state_timed::{REST, RULING};
+use panel_reasons::why_of;
+use read_personality::accepted;
+use rules::answer::Refusal;
+use state_timed::{REST, RULING, is_timed};
+use state_valid::{site_under, times_valid};
+use step_valid::{kept_valid, stray_input};
 
-// What the checks of both calls leave to say: a refusal, nothing in other intervals than running, or why the phase holds.
-#[derive(Clone, Copy)]
-enum Explanation {
-    Refusal { number: u8, place: usize },
-    Silent,
-    Holds { why: Why },
-}
-
-// The personality is checked first, then whether the bytes are a valid state of it (13), and the inputs (15).
-fn explained(personality: &[u8], state: &[u8], inputs: u64) -> Explanation
+// What the checks of both calls leave to say: why the phase holds, or nothing in other intervals than running. The personality is checked first, then
+// whether the bytes are a valid state of it (13), and the inputs (15).
+fn explained(personality: &[u8], state: &[u8], inputs: u64) -> Result<Option<Why>, Refusal>
     ensures { Explains personality.now state.now inputs result }
 {
-    let reading = read_personality::read_with_layout(personality);
-    let verdict = reading.verdict;
-    if let Verdict::Refused { number, place } = verdict {
-        return Explanation::Refusal { number, place };
-    }
-    let layout = reading.layout;
-    if !state_timed::is_timed(state) {
-        return Explanation::Refusal {
+    let p = accepted(personality)?;
+    if !is_timed(state) || !times_valid(&p, state) {
+        return Err(Refusal {
             number: 13,
             place: 0,
-        };
+        });
     }
-    let site = site_whole::site_in(personality, layout, state, RULING);
+    let site = site_under(&p, state, RULING);
     let kept = state_bytes::read(state, REST);
-    if !state_valid::valid(personality, layout, site, kept, state) {
-        return Explanation::Refusal {
+    if !kept_valid(&site, kept) {
+        return Err(Refusal {
             number: 13,
             place: 0,
-        };
+        });
     }
-    if step_valid::stray_input(site, inputs) {
-        return Explanation::Refusal {
+    if stray_input(&site, inputs) {
+        return Err(Refusal {
             number: 15,
             place: 0,
-        };
+        });
     }
-    let position = kept.core.position;
-    let interval = position.interval;
-    if !base_intervals::is_running(interval) {
-        return Explanation::Silent;
+    if !is_running(kept.core.position.interval) {
+        return Ok(None);
     }
-    Explanation::Holds {
-        why: panel_reasons::why_of(site, kept, inputs),
-    }
+    Ok(Some(why_of(&site, kept, inputs)))
 }
 
 // How many bytes the line has that says why the phase holds; 0 in other intervals than running. The inputs are those of the step that gave
@@ -64,11 +53,10 @@ fn explained(personality: &[u8], state: &[u8], inputs: u64) -> Explanation
 pub fn why_length(personality: &[u8], state: &[u8], inputs: u64) -> u64
     ensures { result ≡ why_length_answer personality.now state.now inputs }
 {
-    let found = explained(personality, state, inputs);
-    match found {
-        Explanation::Refusal { number, place } => refusal(number, place),
-        Explanation::Silent => packed(0, 0),
-        Explanation::Holds { why } => packed(0, line_length(why) as u32),
+    match explained(personality, state, inputs) {
+        Err(Refusal { number, place }) => refusal(number, place),
+        Ok(None) => packed(0, 0),
+        Ok(Some(why)) => packed(0, line_length(why) as u32),
     }
 }
 
@@ -89,10 +77,9 @@ pub fn why(personality: &[u8], state: &[u8], inputs: u64, line: &mut [u8]) -> u6
     ensures { (result ≡ why_answer personality.now state.now inputs (length line.old))
         × (line.new ≡ line_after personality.now state.now inputs line.old) }
 {
-    let found = explained(personality, state, inputs);
-    match found {
-        Explanation::Refusal { number, place } => refusal(number, place),
-        Explanation::Silent => packed(0, 0),
-        Explanation::Holds { why } => put_in(why, line),
+    match explained(personality, state, inputs) {
+        Err(Refusal { number, place }) => refusal(number, place),
+        Ok(None) => packed(0, 0),
+        Ok(Some(why)) => put_in(why, line),
     }
 }

@@ -1,3 +1,1 @@
-pub mod BoundAnswers
-pub mod GroupsAnswers
 pub mod SectionAnswers

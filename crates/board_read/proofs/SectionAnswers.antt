@@ -2,7 +2,7 @@
 use Prim.Native.Nat.{ℕ, ◌+◌, ◌*◌, ◌≤◌}
 use mathlib.Core.List.{List}
 use mathlib.Core.Path.{◌≡◌}
-use Rattle.rules.specs.declared.answer.Verdict.TheVariants.{Accepted, Refused}
+use Rattle.rules.specs.Verdicts.{Accepted, Refused}
 use Rattle.laws.specs.Bytes.{two_at}
 use Rattle.rules.specs.Personality.{body_at, body_length}
 use Rattle.rules.specs.Lookup.{lookup_verdict, head_of}

@@ -2,9 +2,10 @@
 use Prim.Native.Nat.{ℕ, ◌+◌, ◌<◌}
 use mathlib.Core.Bool.{Bool, true, false, not, ◌&&◌, ◌||◌}
 use mathlib.Core.List.{List}
-use mathlib.Core.Path.{◌≡◌}
+use mathlib.Core.Path.{◌≡◌, sym, ap, ◌∙◌}
+use native.Mathlib.Omega.{arith}
 use lib.Dec.{eqb}
-use lib.ListN.{length}
+use lib.ListN.{length, get_or}
 use borrow.Author.Tests.{eq-eqb, ne_eqb}
 use Rattle.laws.specs.Bytes.{byte_at}
 use Rattle.laws.specs.Folds.{any_of}
@@ -12,7 +13,6 @@ use Rattle.rules.specs.Personality.{body_at}
 use Rattle.rules.specs.TimedCall.{between, time_byte, differs_elsewhere}
 use Rattle.read_layout.specs.declared.Layout.{Layout}
 use Rattle.read_layout.specs.LayoutOf.{LayoutOf}
-use Rattle.laws.proofs.Folds.{any_at, any-done}
 
 -- the bytes of the time settings, by the places of the layout
 pub time-bytes-laid :
@@ -31,14 +31,10 @@ module _ (b new : List ℕ) where
   abbrev pub differs : ℕ → Bool
   differs i = not (time_byte b i) && not (eqb (byte_at new i) (byte_at b i))
 
-  pub other_length : (length new ≡ length b → ⊥) → true ≡ differs_elsewhere b new
+  pub other_length : (length new ≡ length b → ⊥) → not (eqb (length new) (length b)) ≡ differs_elsewhere b new
   unfolding differs_elsewhere
   other_length e = rw (ne_eqb (length new) (length b) e)
 
-  pub difference-found : (i : ℕ) → length new ≡ length b → i < length b → differs i ≡ true → true ≡ differs_elsewhere b new
+  pub compared : (r : Bool) → length new ≡ length b → r ≡ any_of differs (length b) → r ≡ differs_elsewhere b new
   unfolding differs_elsewhere
-  difference-found i e l h = rw (eq-eqb (length new) (length b) e, any_at differs (length b) i l h)
-
-  pub no_difference : (i : ℕ) → length new ≡ length b → any_of differs i ≡ false → i ≡ length b → false ≡ differs_elsewhere b new
-  unfolding differs_elsewhere
-  no_difference i e none done = rw (eq-eqb (length new) (length b) e) (any-done differs (length b) i none done)
+  compared r e found = rw (eq-eqb (length new) (length b) e) found

@@ -1,6 +1,6 @@
 -- The retiming call with the state as bytes: personality, state, new personality. A refused call leaves the state as it is.
 use Rattle.std.specs.Prelude.{ℕ, not, List}
-use Rattle.rules.specs.declared.answer.Verdict.{Verdict}
+use Rattle.rules.specs.Verdicts.{Verdict}
 use Rattle.rules.specs.Verdicts.{◌or_else◌, refuse_if}
 use Rattle.rules.specs.Personality.{verdict_of}
 use Rattle.rules.specs.Site.{times_in}

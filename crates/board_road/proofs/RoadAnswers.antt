@@ -6,23 +6,24 @@ use mathlib.Core.List.{List}
 use mathlib.Core.Path.{◌≡◌, ◌∙◌}
 use lib.ListN.{length}
 use borrow.Author.Tests.{lt-ltb, le-ltb, eq-eqb, ne_eqb}
-use Rattle.rules.specs.declared.answer.Verdict.TheVariants.{Accepted, Refused}
+use Rattle.std.specs.Prelude.{Err}
+use Rattle.rules.specs.declared.answer.Refusal.{Refusal}
+use Rattle.rules.specs.Verdicts.{Outcome, Stepped, Accepted, Refused}
 use Rattle.rules.specs.declared.site.Site.{Site}
 use Rattle.rules.specs.declared.state.KeptState.{KeptState}
 use Rattle.rules.specs.Verdicts.{◌or_else◌, refuse_if}
 use Rattle.rules.specs.Personality.{verdict_of}
 use Rattle.rules.specs.Site.{site_of}
 use Rattle.rules.specs.Timed.{with_own_times}
-use Rattle.rules.specs.Call.{handed_back}
+use Rattle.rules.specs.Call.{bound_for, handed_back}
 use Rattle.state_timed.specs.TimedLayout.{timed_bytes, timed_encoded}
 use Rattle.road_streams.specs.Road.{bad_streams, road_after, streams_verdict, road_verdict, results_of, results_for, road_results}
-use Rattle.board_answers.specs.Answers.{packed, packed_verdict}
-use Rattle.board_road.specs.RoadCall.{board_verdict, road_answer, last_state, results_after}
+use Rattle.board_road.specs.RoadCall.{board_verdict, last_state, results_after}
 
 -- ── The verdict ──
 
 module _ (b streams : List ℕ) (steps : ℕ) (state : List ℕ) (room : ℕ) where
-  pub by-personality : {number place : ℕ} → verdict_of b ≡ Refused number place → board_verdict b streams steps state room ≡ Refused number place
+  pub by-personality : {r : Refusal} → verdict_of b ≡ Err r → board_verdict b streams steps state room ≡ Err r
   unfolding board_verdict road_verdict streams_verdict ◌or_else◌
   by-personality e = rw e
 
@@ -46,21 +47,17 @@ module _ (b streams : List ℕ) (steps : ℕ) (state : List ℕ) (room : ℕ) wh
 
 -- ── The answer ──
 
--- what the call answers, with both buffers as they return
-abbrev pub Answers : List ℕ → List ℕ → ℕ → List ℕ → List ℕ → ℕ → List ℕ → List ℕ → Type 0
-Answers b streams steps state old r new out =
-    (r ≡ road_answer b streams steps state (length old))
+-- what the call answers before it is packed, with both buffers as they return
+abbrev pub Tries : List ℕ → List ℕ → ℕ → List ℕ → List ℕ → Outcome → List ℕ → List ℕ → Type 0
+Tries b streams steps state old o new out =
+    (o ≡ bound_for (board_verdict b streams steps state (length old)) 0)
     × (new ≡ last_state b streams steps state (length old))
     × (out ≡ results_after b streams steps state old)
 
 module _ (b streams : List ℕ) (steps : ℕ) (state old : List ℕ) where
-  pub declines :
-      {r number place : ℕ} →
-      board_verdict b streams steps state (length old) ≡ Refused number place →
-      r ≡ packed number place →
-      Answers b streams steps state old r state old
-  unfolding road_answer last_state results_after board_verdict road_results handed_back results_for packed_verdict
-  declines e p = (rw (e, p), rw e, rw e)
+  pub declines : {r : Refusal} → board_verdict b streams steps state (length old) ≡ Err r → Tries b streams steps state old (Err r) state old
+  unfolding bound_for last_state results_after board_verdict road_results handed_back results_for
+  declines e = (rw e, rw e, rw e)
 
   pub goes_on :
       {site : Site} {last : KeptState} {new out : List ℕ} →
@@ -69,6 +66,6 @@ module _ (b streams : List ℕ) (steps : ℕ) (state old : List ℕ) where
       last ≡ (road_after b streams steps).state →
       new ≡ timed_encoded (with_own_times site last) →
       out ≡ results_for Accepted (results_of streams (road_after b streams steps).traffic) old →
-      Answers b streams steps state old 0 new out
-  unfolding road_answer last_state results_after board_verdict road_results handed_back packed_verdict packed
+      Tries b streams steps state old (Stepped 0) new out
+  unfolding bound_for last_state results_after board_verdict road_results handed_back
   goes_on e s l n w = (rw e, n ∙ rw (e, s, l), w ∙ rw e)

@@ -1,7 +1,7 @@
 -- The simulated road over the board interface. The answer is 0, or the number of the refusal in the lowest byte and the place above it. A refused
 -- call leaves both buffers as they are.
 use Rattle.std.specs.Prelude.{ℕ, List, eqb, length}
-use Rattle.rules.specs.declared.answer.Verdict.{Verdict}
+use Rattle.rules.specs.Verdicts.{Verdict}
 use Rattle.rules.specs.Site.{site_of}
 use Rattle.rules.specs.Timed.{with_own_times}
 use Rattle.rules.specs.Call.{handed_back}

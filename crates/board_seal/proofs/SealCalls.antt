@@ -1,13 +1,15 @@
 -- Sealing and resuming, check by check: each decides the verdict once the checks before it have passed, and the verdict decides the answer and
 -- what becomes of the buffer.
 use Prim.Native.Nat.{ℕ}
-use mathlib.Core.Bool.{true, false}
+use mathlib.Core.Bool.{true, false, not}
 use mathlib.Core.List.{List}
 use mathlib.Core.Path.{◌≡◌, refl, ◌∙◌}
 use lib.ListN.{length}
-use borrow.Author.Tests.{eq-eqb, ne_eqb, not-false}
+use borrow.Author.Tests.{eq-eqb, not-false}
 use Rattle.laws.proofs.Booleans.{and_left}
-use Rattle.rules.specs.declared.answer.Verdict.TheVariants.{Accepted, Refused}
+use Rattle.std.specs.Prelude.{Err}
+use Rattle.rules.specs.declared.answer.Refusal.{Refusal}
+use Rattle.rules.specs.Verdicts.{Verdict, Accepted, Refused}
 use Rattle.rules.specs.Verdicts.{◌or_else◌, refuse_if}
 use Rattle.rules.specs.Personality.{verdict_of}
 use Rattle.rules.specs.Call.{handed_back}
@@ -18,7 +20,7 @@ use Rattle.state_timed.proofs.TimedLaws.{timed-known}
 use Rattle.state_sealed.specs.Sealed.{sealed_bytes, sealed_of, other_version, damaged, other_personality, state_in}
 use Rattle.state_valid.specs.StateOf.{is_state_of}
 use Rattle.board_answers.specs.Answers.{packed}
-use Rattle.board_answers.proofs.Answers.{read-accepted, read-refused}
+use Rattle.board_answers.proofs.Answers.{Near, near_if, near_or, read-accepted, read-refused}
 use Rattle.board_seal.specs.SealCall.{seal_verdict, seal_answer, seal_after, record_verdict, resume_verdict, resume_answer, resume_after}
 
 -- a valid state has the length of one
@@ -33,24 +35,8 @@ abbrev pub Seals : List ℕ → List ℕ → List ℕ → ℕ → List ℕ → T
 Seals b state old r new = (r ≡ seal_answer b state old) × (new ≡ seal_after b state old)
 
 module _ (b state old : List ℕ) where
-  keeps : (r : ℕ) {number place : ℕ} → seal_verdict b state old ≡ Refused number place → r ≡ packed number place → Seals b state old r old
-  unfolding seal_answer seal_after handed_back
-  keeps r e p = (read-refused (seal_verdict b state old) _ r refl e p, rw e)
-
-  pub not-sealed : (r : ℕ) {number place : ℕ} → verdict_of b ≡ Refused number place → r ≡ packed number place → Seals b state old r old
-  unfolding seal_verdict ◌or_else◌
-  not-sealed r e p = keeps r (rw e) p
-
   module _ (accepted : verdict_of b ≡ Accepted) where
-    pub no-state : (r : ℕ) → is_state_of b state ≡ false → r ≡ packed 13 0 → Seals b state old r old
-    unfolding seal_verdict ◌or_else◌ refuse_if
-    no-state r e p = keeps r (rw (accepted, e)) p
-
     module _ (valid : is_state_of b state ≡ true) where
-      pub no_room : (r : ℕ) → (length old ≡ sealed_bytes → ⊥) → r ≡ packed 14 0 → Seals b state old r old
-      unfolding seal_verdict ◌or_else◌ refuse_if
-      no_room r e p = keeps r (rw (accepted, valid, ne_eqb (length old) sealed_bytes e)) p
-
       pub seals : (new : List ℕ) → length old ≡ sealed_bytes → new ≡ sealed_of b state → Seals b state old 0 new
       unfolding seal_verdict seal_answer seal_after ◌or_else◌ refuse_if handed_back
       seals new e written =
@@ -88,8 +74,29 @@ module _ (b sealed : List ℕ) where
       (λ e. or-refusals Allowed _ _ (if-refusals Allowed _ 28 0 whole)
       (λ e. or-refusals Allowed _ _ (if-refusals Allowed _ 29 0 personality) (λ e. if-refusals Allowed _ 13 0 valid)))
 
-  pub record-place : {number place : ℕ} → record_verdict b sealed ≡ Refused number place → place ≡ 0
-  record-place {number} {place} e = record-refusals (λ n p. p ≡ 0) refl refl refl refl number place e
+  pub near_record : Near (record_verdict b sealed)
+  unfolding record_verdict
+  near_record = near_or _ _ (near_if _ 27) (near_or _ _ (near_if _ 28) (near_or _ _ (near_if _ 29) (near_if _ 13)))
+
+  -- the verdict by what each check gave: the first refusal, and the last check if the others pass
+  module _ {version : Verdict} (first : version ≡ refuse_if (other_version sealed) 27 0) where
+    pub by-version : {r : Refusal} → version ≡ Err r → record_verdict b sealed ≡ Err r
+    unfolding record_verdict ◌or_else◌
+    by-version e = rw (← first, e)
+
+    module _ (known : version ≡ Accepted) {damage : Verdict} (second : damage ≡ refuse_if (damaged sealed) 28 0) where
+      pub by-damage : {r : Refusal} → damage ≡ Err r → record_verdict b sealed ≡ Err r
+      unfolding record_verdict ◌or_else◌
+      by-damage e = rw (← first, known, ← second, e)
+
+      module _ (whole : damage ≡ Accepted) {own : Verdict} (third : own ≡ refuse_if (other_personality b sealed) 29 0) where
+        pub by-personality : {r : Refusal} → own ≡ Err r → record_verdict b sealed ≡ Err r
+        unfolding record_verdict ◌or_else◌
+        by-personality e = rw (← first, known, ← second, whole, ← third, e)
+
+        pub by-state : own ≡ Accepted → record_verdict b sealed ≡ refuse_if (not (is_state_of b (state_in sealed))) 13 0
+        unfolding record_verdict ◌or_else◌
+        by-state e = rw (← first, known, ← second, whole, ← third, e)
 
 -- ── Resuming ──
 
@@ -101,15 +108,7 @@ module _ (b sealed old : List ℕ) where
   unfolding resume_answer resume_after handed_back
   stays r e p = (read-refused (resume_verdict b sealed old) _ r refl e p, rw e)
 
-  pub not-resumed : (r : ℕ) {number place : ℕ} → verdict_of b ≡ Refused number place → r ≡ packed number place → Resumes b sealed old r old
-  unfolding resume_verdict ◌or_else◌
-  not-resumed r e p = stays r (rw e) p
-
   module _ (accepted : verdict_of b ≡ Accepted) where
-    pub other-room : (r : ℕ) → (length old ≡ timed_bytes → ⊥) → r ≡ packed 13 0 → Resumes b sealed old r old
-    unfolding resume_verdict ◌or_else◌ refuse_if
-    other-room r e p = stays r (rw (accepted, ne_eqb (length old) timed_bytes e)) p
-
     module _ (room : length old ≡ timed_bytes) where
       pub record-decides : resume_verdict b sealed old ≡ record_verdict b sealed
       unfolding resume_verdict ◌or_else◌ refuse_if

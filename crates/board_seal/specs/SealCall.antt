@@ -1,6 +1,6 @@
 -- Sealing a state before the power goes, and resuming it at power-up. A refused call leaves the buffer as it is.
 use Rattle.std.specs.Prelude.{ℕ, not, List, eqb, length}
-use Rattle.rules.specs.declared.answer.Verdict.{Verdict}
+use Rattle.rules.specs.Verdicts.{Verdict}
 use Rattle.rules.specs.Verdicts.{◌or_else◌, refuse_if}
 use Rattle.rules.specs.Personality.{verdict_of}
 use Rattle.rules.specs.Call.{handed_back}

@@ -1,9 +1,8 @@
 -- The settings of a site sheet over the board interface. The lowest byte of the answer is the number of the refusal, 0 if there are settings. Above
 -- it are the place, or minimum green in 16 bits and then the passage time in 16 bits.
 use Rattle.std.specs.Prelude.{ℕ, ◌+◌, ◌*◌, eqb, if◌then◌else◌, Float}
-use Rattle.sheet_settings.specs.declared.Answer.{Answer}
 use Rattle.sheet_settings.specs.declared.Detector.TheVariants.{Advance, StopLine}
-use Rattle.sheet_settings.specs.Sheet.{settings_report_of, minimum_of, passage_of, answer_of}
+use Rattle.sheet_settings.specs.Sheet.{Answer, settings_report_of, minimum_of, passage_of, answer_of}
 use Rattle.board_answers.specs.Answers.{packed}
 
 unfoldable pub packed_settings : Answer → ℕ

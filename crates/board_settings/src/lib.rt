@@ -6,18 +6,18 @@ ghost use Rattle.sheet_settings.specs.Sheet.{answer_of};
 ghost use Rattle.board_settings.specs.SettingsCall.{packed_settings, settings_answer};
 
 use board_answers::{packed, refusal};
-use sheet_settings::{Answer, Detector, Sheet};
+use rules::answer::Refusal;
+use sheet_settings::{Detector, Sheet, SheetSettings};
 
 // The answer for a sheet: 0 in the lowest byte, then minimum green in 16 bits and the passage time in 16 bits; or the refusal.
 fn packed_settings(sheet: Sheet) -> u64
     ensures { result ≡ packed_settings (answer_of sheet) }
 {
-    let answer = sheet_settings::settings(sheet);
-    match answer {
-        Answer::Settings { minimum, passage } => {
-            packed(0, (minimum as u32) + 65536 * (passage as u32))
+    match sheet_settings::settings(sheet) {
+        Ok(SheetSettings { minimum, passage }) => {
+            packed(0, u32::from(minimum) + 65536 * u32::from(passage))
         }
-        Answer::Refused { number, place } => refusal(number, place),
+        Err(Refusal { number, place }) => refusal(number, place),
     }
 }
 
@@ -25,17 +25,10 @@ fn packed_settings(sheet: Sheet) -> u64
 pub fn settings(speed: u32, detector: u32, metres: f64) -> u64
     ensures { result ≡ settings_answer speed detector metres }
 {
-    if detector == 0 {
-        return packed_settings(Sheet {
-            speed,
-            detector: Detector::Advance(metres),
-        });
-    }
-    if detector == 1 {
-        return packed_settings(Sheet {
-            speed,
-            detector: Detector::StopLine(metres),
-        });
-    }
-    refusal(19, 0)
+    let detector = match detector {
+        0 => Detector::Advance(metres),
+        1 => Detector::StopLine(metres),
+        _ => return refusal(19, 0),
+    };
+    packed_settings(Sheet { speed, detector })
 }

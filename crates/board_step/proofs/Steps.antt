@@ -3,7 +3,7 @@
 use Prim.Native.Nat.{ℕ}
 use mathlib.Core.Bool.{Bool, true, false}
 use mathlib.Core.List.{List, ◌++◌}
-use mathlib.Core.Path.{◌≡◌, refl, sym, ap, subst⁻¹, ◌∙◌}
+use mathlib.Core.Path.{◌≡◌, refl, sym, ap, ◌∙◌}
 use lib.ListN.{drop}
 use Rattle.rules.specs.declared.site.Site.{Site}
 use Rattle.rules.specs.declared.site.Times.{Times}
@@ -15,17 +15,14 @@ use Rattle.rules.specs.Kept.{kept_valid, kept_stepped}
 use Rattle.rules.specs.Timed.{TimedState, kept_of, ruled_site, none_waiting, starts_next, takes_over, ruling_next, timed_stepped}
 use Rattle.rules.specs.Colours.{colours_of}
 use Rattle.rules.specs.WaitBound.{wait_bound}
-use Rattle.rules.specs.Laws.{Sound}
 use Rattle.rules.specs.TimedLaws.{ready}
-use Rattle.proof_change.proofs.Timed.{timed-told, plain_state, old-sound, new-sound, ready-timed, timed-is-plain}
+use Rattle.proof_change.proofs.Timed.{timed-told, plain_state, ready-timed, timed-is-plain}
 use Rattle.state_timed.specs.TimedLayout.{settled, timed_decoded, timed_encoded}
-use Rattle.board_answers.specs.Answers.{packed}
 use Rattle.board_step.specs.Accepted.{Stepping, takes_over_in, after, Steps}
 
--- The site and the state from which the plain step goes: they are sound and valid, the step is that of the rules, and the site has the times that
--- rule after it. `over` says if waiting times take over.
+-- The site and the state from which the plain step goes: the state is valid, the step is that of the rules, and the site has the times that rule
+-- after it. `over` says if waiting times take over.
 pub record Goes (site : Site) (old : List ℕ) (over : Bool) (new : Site) (from : KeptState) : Type 0 where
-  pub sound : Sound new
   pub valid : kept_valid new from ≡ true
   pub same :
       (inputs : ℕ) (next : KeptState) →
@@ -41,9 +38,6 @@ module _ (site : Site) (before : KeptState) (old : List ℕ) (given : Stepping s
   own = given.own
 
   -- ── The state and the site ──
-
-  pub site-sound : Sound site
-  site-sound = subst⁻¹ Sound given.ruled (old-sound own given.sound s given.valid)
 
   pub kept-valid : kept_valid site before ≡ true
   kept-valid = rw (given.ruled, given.kept) (timed-told own s given.valid).rest
@@ -142,7 +136,6 @@ module _ (site : Site) (before : KeptState) (old : List ℕ) (given : Stepping s
       let over = sym takes ∙ e in
       rw (e, read, from)
       (record {
-        sound = subst⁻¹ Sound (same-others news) (new-sound own given.sound s given.valid (sym same_over ∙ over));
         valid =
             ap (λ (x : Site). kept_valid x (ready before)) (same-others news)
             ∙ ap (λ (k : KeptState). kept_valid (under own news) (ready k)) given.kept
@@ -160,24 +153,24 @@ module _ (site : Site) (before : KeptState) (old : List ℕ) (given : Stepping s
       Goes site old over new from
   goes_on takes e same from =
       rw (e, same, from)
-      (record { sound = site-sound; valid = kept-valid; same = λ inputs next. stayed inputs next (sym takes ∙ e); ruled = same-times })
+      (record { valid = kept-valid; same = λ inputs next. stayed inputs next (sym takes ∙ e); ruled = same-times })
 
   -- ── What the call gives ──
 
   pub steps :
       {over : Bool} {new : Site} {from : KeptState} (goes : Goes site old over new from) (inputs : ℕ) (buffer : List ℕ) (next : KeptState)
-      {answer : ℕ} {bytes out : List ℕ} →
+      {wait : ℕ} {bytes out : List ℕ} →
       next ≡ kept_stepped new from inputs →
       bytes ≡ timed_encoded (after new next over s) →
-      (answer ≡ packed 0 (wait_bound new)) × (out ≡ colours_of new next.core ++ drop new.size.groups buffer) →
-      Steps site old inputs buffer answer bytes out
+      (wait ≡ wait_bound new) × (out ≡ colours_of new next.core ++ drop new.size.groups buffer) →
+      Steps site old inputs buffer wait bytes out
   steps {over} {new} goes inputs buffer next e n shown =
       let same = goes.same inputs next e in
       record {
-        answered =
+        waits =
             shown.0
-            ∙ ap (λ (x : Site). packed 0 (wait_bound x)) (sym goes.ruled)
-            ∙ ap (λ (x : TimedState). packed 0 (wait_bound (ruled_site site x))) same;
+            ∙ ap wait_bound (sym goes.ruled)
+            ∙ ap (λ (x : TimedState). wait_bound (ruled_site site x)) same;
         stored = n ∙ ap timed_encoded same;
         shown =
             shown.1

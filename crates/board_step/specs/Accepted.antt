@@ -3,13 +3,11 @@
 use Rattle.std.specs.Prelude.{ℕ, Bool, true, List, ◌++◌, ◌≡◌, drop, if◌then◌else◌}
 use Rattle.rules.specs.declared.site.Site.{Site}
 use Rattle.rules.specs.declared.state.KeptState.{KeptState}
-use Rattle.rules.specs.Site.{site_of}
 use Rattle.rules.specs.Timed.{TimedState, kept_of, ruled_site, none_waiting, timed_valid, takes_over, timed_stepped}
 use Rattle.rules.specs.Colours.{colours_of}
 use Rattle.rules.specs.WaitBound.{wait_bound}
 use Rattle.rules.specs.Laws.{Sound}
 use Rattle.state_timed.specs.TimedLayout.{is_timed, timed_decoded, timed_encoded}
-use Rattle.board_answers.specs.Answers.{packed}
 
 -- a site and a state that the check of the bytes gave
 pub record Stepping (site : Site) (before : KeptState) (old : List ℕ) : Type 0 where
@@ -23,10 +21,6 @@ pub record Stepping (site : Site) (before : KeptState) (old : List ℕ) : Type 0
 abbrev pub takes_over_in : Site → List ℕ → Bool
 takes_over_in site old = takes_over site (timed_decoded old)
 
--- the site under the times that rule in the bytes of a state
-abbrev pub ruled_in : List ℕ → List ℕ → Site
-ruled_in b old = ruled_site (site_of b) (timed_decoded old)
-
 -- The state with this rest. If times that waited take over, they are those of the site, and none wait; else the times are as they were.
 abbrev pub after : Site → KeptState → Bool → TimedState → TimedState
 after site next over s =
@@ -37,9 +31,9 @@ after site next over s =
       waiting = if over then none_waiting else s.waiting;
     }
 
--- the answer, the state's bytes and the colours
-pub record Steps (site : Site) (old : List ℕ) (inputs : ℕ) (buffer : List ℕ) (answer : ℕ) (new out : List ℕ) : Type 0 where
-  pub answered : answer ≡ packed 0 (wait_bound (ruled_site site (timed_stepped site (timed_decoded old) inputs)))
+-- the wait bound, the state's bytes and the colours
+pub record Steps (site : Site) (old : List ℕ) (inputs : ℕ) (buffer : List ℕ) (wait : ℕ) (new out : List ℕ) : Type 0 where
+  pub waits : wait ≡ wait_bound (ruled_site site (timed_stepped site (timed_decoded old) inputs))
   pub stored : new ≡ timed_encoded (timed_stepped site (timed_decoded old) inputs)
   pub shown :
       let next = timed_stepped site (timed_decoded old) inputs in

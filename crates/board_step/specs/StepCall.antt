@@ -1,6 +1,6 @@
 -- The step call with the state as bytes: personality, state, input bits, and the colour buffer or its length.
 use Rattle.std.specs.Prelude.{ℕ, List, length}
-use Rattle.rules.specs.declared.answer.Verdict.{Verdict}
+use Rattle.rules.specs.Verdicts.{Verdict}
 use Rattle.rules.specs.Verdicts.{◌or_else◌}
 use Rattle.rules.specs.Personality.{verdict_of}
 use Rattle.rules.specs.Site.{site_of}

@@ -1,1 +1,1 @@
-pub mod WaitsCalls
+pub mod WaitParts

@@ -1,7 +1,7 @@
 -- The call for the waits of a personality, by its own times: two bytes for each phase, then two for each movement, the lower byte first.
 use Rattle.std.specs.Prelude.{ℕ, ◌+◌, ◌*◌, List, ltb, length, get_or}
 use Rattle.std.proofs.lemmas.List.Edits.{sets}
-use Rattle.rules.specs.declared.answer.Verdict.{Verdict}
+use Rattle.rules.specs.Verdicts.{Verdict}
 use Rattle.rules.specs.declared.site.Site.{Site}
 use Rattle.rules.specs.Verdicts.{◌or_else◌, refuse_if}
 use Rattle.rules.specs.Personality.{verdict_of}

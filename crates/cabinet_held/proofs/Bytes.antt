@@ -1,31 +1,12 @@
--- Bytes of one value, bytes that are copied, and a part of a buffer that is stored back.
-use Prim.Native.Nat.{ℕ, zero, suc, ◌+◌, ◌-◌, ◌≤◌}
-use mathlib.Core.List.{List, [], ◌∷◌, ◌++◌, append-nil, append_assoc}
+-- A part of a buffer that is stored back.
+use Prim.Native.Nat.{ℕ, ◌-◌, ◌≤◌}
+use mathlib.Core.List.{List, [], ◌∷◌, ◌++◌, append-nil}
 use mathlib.Core.Path.{◌≡◌, refl, ap, ◌∙◌}
 use native.Mathlib.Nat.{zero-add}
 use native.Mathlib.Omega.{arith}
-use lib.ListN.{length, take, drop, replicate, length-append, length-drop, length-replicate, take-append-drop, drop_of_length-le}
-use lib.Seq.{drop-drop, sets, sets-eq, take_at}
-use Rattle.laws.specs.Folds.{list_of}
+use lib.ListN.{length, take, drop, replicate, length-append, length-drop, take-append-drop}
+use lib.Seq.{drop-drop, drop-length, sets, sets-eq, take-length, take-append_seam, drop-append_seam}
 use Rattle.cabinet_records.specs.Cabinet.{written_at}
-
--- ── Bytes of one value ──
-
-snoc-alike : (x n : ℕ) → replicate n x ++ (x ∷ []) ≡ x ∷ replicate n x
-snoc-alike x zero = refl
-snoc-alike x (suc n) = ap (λ (l : List ℕ). x ∷ l) (snoc-alike x n)
-
-pub list-alike : (x n : ℕ) → list_of (λ _. x) n ≡ replicate n x
-unfolding list_of
-list-alike x zero = refl
-list-alike x (suc n) = rw (list-alike x n) (snoc-alike x n)
-
--- ── Bytes that are copied ──
-
-pub copied : (from old : List ℕ) → length from ≤ length old → sets old 0 from ≡ from ++ drop (length from) old
-copied from old fits = rw (sets-eq from old 0 (omega arith), zero-add (length from)) refl
-
--- ── A part that is stored back ──
 
 pub part-back : (out : List ℕ) (f n : ℕ) (new : List ℕ) → length new ≡ n → take f out ++ (new ++ drop n (drop f out)) ≡ written_at out f new
 unfolding written_at
@@ -39,24 +20,22 @@ pub none_of : (l : List ℕ) → length l ≡ 0 → l ≡ []
 none_of [] e = refl
 none_of (x ∷ l) e = absurd (omega (arith, e))
 
--- a personality with zeros behind it
-pub padded :
-    (b room once : List ℕ) →
-    length b ≤ length room →
-    once ≡ b ++ drop (length b) room →
-    sets once (length b) (replicate (length once - length b) 0) ≡ b ++ replicate (length room - length b) 0
-padded b room once l copied =
-    let behind = drop (length b) room in
-    let long : length once ≡ length room = ap length copied ∙ length-append b behind ∙ omega (arith, length-drop (length b) room) in
-    let zeros : List ℕ = replicate (length room - length b) 0 in
-    let size = length-replicate {A = ℕ} (length room - length b) 0 in
-    let past : length (b ++ behind) ≤ length b + (length room - length b) = omega (arith, length-append b behind, length-drop (length b) room) in
-    rw long
-    (sets-eq zeros once (length b) (omega (arith, size, long))
-    ∙ rw (copied, take_at b behind (length b) refl, size)
-    (ap (λ (l : List ℕ). (b ++ zeros) ++ l) (drop_of_length-le (b ++ behind) past) ∙ append-nil (b ++ zeros)))
+copied : (from old : List ℕ) → length from ≤ length old → sets old 0 from ≡ from ++ drop (length from) old
+copied from old fits = rw (sets-eq from old 0 (omega arith), zero-add (length from)) refl
 
--- bytes stored one by one
-pub sets-written : (out : List ℕ) (f : ℕ) (new : List ℕ) → f + length new ≤ length out → sets out f new ≡ written_at out f new
-unfolding written_at
-sets-written out f new fits = sets-eq new out f fits ∙ append_assoc (take f out) new (drop (f + length new) out)
+-- bytes stored from the start on, and zeros stored back behind them
+pub padded :
+    (b room : List ℕ) {once filled : List ℕ} {n : ℕ} →
+    length b ≤ length room →
+    once ≡ sets room 0 b →
+    n ≡ length once - length b →
+    filled ≡ replicate (length (take n (drop (length b) once))) 0 →
+    take (length b) once ++ (filled ++ drop n (drop (length b) once)) ≡ b ++ replicate (length room - length b) 0
+padded b room {once} {filled} {n} fits told count same =
+    let behind = drop (length b) room in
+    let whole : once ≡ b ++ behind = told ∙ copied b room fits in
+    let size : length behind ≡ length room - length b = length-drop (length b) room in
+    let long : length once ≡ length (b ++ behind) = ap length whole in
+    let left : n ≡ length behind = omega (arith, count, long, length-append b behind, size) in
+    rw (same, left, whole, take-append_seam b behind, drop-append_seam b behind, take-length behind, drop-length behind, size)
+    (ap (λ (l : List ℕ). b ++ l) (append-nil (replicate (length room - length b) 0)))

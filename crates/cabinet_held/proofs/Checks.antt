@@ -1,54 +1,48 @@
 -- What the checks tell: no place of a refusal is above the length of the longest personality, and if they pass, the personality
 -- and its outputs have room.
+use Rattle.std.specs.Prelude.{Ok, Err, IfErr}
 use Prim.Native.Nat.{ℕ, ◌+◌, ◌≤◌}
 use mathlib.Core.Bool.{Bool, not, ◌||◌}
 use mathlib.Core.List.{List}
-use mathlib.Core.Path.{◌≡◌}
+use mathlib.Core.Path.{◌≡◌, refl, sym, ◌∙◌}
 use native.Mathlib.Omega.{arith}
 use borrow.Author.Tests.{ltb-false}
 use lib.Dec.{ltb}
 use lib.ListN.{length}
-use Rattle.rules.specs.declared.answer.Verdict.{Verdict}
-use Rattle.rules.specs.declared.answer.Verdict.TheVariants.{Accepted}
+use Rattle.rules.specs.Verdicts.{Verdict}
+use Rattle.rules.specs.Verdicts.{Accepted}
+use Rattle.rules.specs.declared.answer.Refusal.{Refusal}
 use Rattle.rules.specs.Laws.{greatest_length, AcceptedIsShort}
 use Rattle.rules.specs.Personality.{verdict_of}
-use Rattle.rules.specs.Verdicts.{◌or_else◌, refuse_if}
+use Rattle.rules.specs.Verdicts.{refuse_if}
 use Rattle.laws.proofs.Booleans.{or-false-left}
 use Rattle.rules.proofs.Verdicts.{or-first, or_later, refuse-passed}
-use Rattle.proof_acceptance.proofs.Places.{last_place, personality-named}
-use Rattle.proof_acceptance.proofs.Refusals.{accepted-is-short, if-refusals, or-refusals}
+use Rattle.proof_acceptance.proofs.Refusals.{accepted-is-short}
+use Rattle.board_answers.proofs.Answers.{Near, near_read, near_if, near_or}
 use Rattle.cabinet_records.specs.Cabinet.{outputs_of, past_last}
 use Rattle.cabinet_records.proofs.Checks.{all-passed}
-use Rattle.cabinet_held.specs.Held.{Near, held_checks, taking_checks, placing_checks}
+use Rattle.cabinet_held.specs.Held.{held_checks, taking_checks, placing_checks}
 
 -- ── Places ──
 
-abbrev Place : ℕ → ℕ → Type 0
-Place number place = place ≤ last_place
-
-read-near : (b : List ℕ) → Near (verdict_of b)
-read-near b number place e = (personality-named b number place e).1
-
-check-near : (t : Bool) (number : ℕ) → Near (refuse_if t number 0)
-check-near t number = if-refusals Place t number 0 (omega arith)
-
-checks-near : (v w : Verdict) → Near v → Near w → Near (v or_else w)
-checks-near v w first later = or-refusals Place v w first (λ e. later)
-
 pub held-near : (b : List ℕ) (first : ℕ) → Near (held_checks b first)
 unfolding held_checks
-held-near b first = checks-near (verdict_of b) _ (read-near b) (check-near _ 25)
+held-near b first = near_or (verdict_of b) _ (near_read b) (near_if _ 25)
 
 pub taking-near : (b : List ℕ) (first room : ℕ) → Near (taking_checks b first room)
 unfolding taking_checks
-taking-near b first room = checks-near (held_checks b first) _ (held-near b first) (check-near _ 14)
+taking-near b first room = near_or (held_checks b first) _ (held-near b first) (near_if _ 14)
 
 pub placing-near : (b : List ℕ) (free met : Bool) (first room : ℕ) → Near (placing_checks b free met first room)
 unfolding placing_checks
-placing-near b free met first room =
-    checks-near (verdict_of b) _ (read-near b)
-    (checks-near (refuse_if (not free) 24 0) _ (check-near (not free) 24)
-    (checks-near (refuse_if (past_last first (outputs_of b) || met) 25 0) _ (check-near _ 25) (check-near (ltb room 32) 14)))
+placing-near b free met first room = near_or (verdict_of b) _ (near_read b) (near_or _ _ (near_if _ 24) (near_or _ _ (near_if _ 25) (near_if _ 14)))
+
+pub near_err : {v w : Verdict} {r : Refusal} → w ≡ v → Near v → w ≡ Err r → r.place ≤ greatest_length
+near_err {r = r} e near f = near.told r.number r.place (sym e ∙ f)
+
+pub near_plain : {w : Verdict} (v : Verdict) → w ≡ v → Near v → IfErr w (λ r. r.place ≤ greatest_length)
+near_plain (Ok _) e near = rw e tt
+near_plain (Err r) e near = rw e (near.told r.number r.place refl)
 
 -- ── Checks that pass ──
 

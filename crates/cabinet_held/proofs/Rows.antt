@@ -1,4 +1,5 @@
 -- The verdict of a call on a row is that of the checks on what the record that it names holds. Where there is no record for the call it is 24.
+use Rattle.std.specs.Prelude.{Ok, Err}
 use Prim.Native.Nat.{ℕ}
 use mathlib.Core.Bool.{Bool, true, false, not, ◌&&◌, ◌||◌}
 use mathlib.Core.List.{List}
@@ -6,8 +7,8 @@ use mathlib.Core.Path.{◌≡◌, refl, sym, ap}
 use lib.Dec.{ltb}
 use lib.ListN.{length, set}
 use lib.Seq.{set-get_or}
-use Rattle.rules.specs.declared.answer.Verdict.{Verdict}
-use Rattle.rules.specs.declared.answer.Verdict.TheVariants.{Accepted, Refused}
+use Rattle.rules.specs.Verdicts.{Verdict}
+use Rattle.rules.specs.Verdicts.{Refused}
 use Rattle.rules.specs.Personality.{verdict_of}
 use Rattle.rules.specs.Verdicts.{◌or_else◌, refuse_if}
 use Rattle.board_answers.specs.Answers.{packed, packed_verdict}
@@ -26,8 +27,8 @@ not-and-not false b = refl
 
 or_assoc : (u v w : Verdict) → (u or_else (v or_else w)) ≡ ((u or_else v) or_else w)
 unfolding ◌or_else◌
-or_assoc Accepted v w = refl
-or_assoc (Refused number place) v w = refl
+or_assoc (Ok _) v w = refl
+or_assoc (Err r) v w = refl
 
 module _ (row : List Record) (out : List ℕ) (k : ℕ) where
   abbrev own : Record
@@ -49,8 +50,8 @@ module _ (row : List Record) (out : List ℕ) (k : ℕ) where
         (has_record row k && is_free own) ≡ false →
         record { answer = packed_verdict (v or_else Refused 24 0); row = row; outputs = out } ≡ placing row out b k first
     unfolding placing returned_for placing_verdict refuse_if ◌or_else◌
-    none-for Accepted e none = rw (e, not-and (has_record row k) (is_free own), none)
-    none-for (Refused number place) e none = rw e
+    none-for (Ok _) e none = rw (e, not-and (has_record row k) (is_free own), none)
+    none-for (Err r) e none = rw e
 
     -- no such record, or it is not free
     pub placing-none :
@@ -80,10 +81,10 @@ module _ (row : List Record) (out : List ℕ) (k : ℕ) where
         let done = held_step (personality_of own) own.first own.state inputs out in
         stepping row out k inputs ≡ record { answer = done.answer; row = set row k (with_state own done.state); outputs = done.outputs }
     unfolding stepping stepped returned_for held_step held_step_for held_stepped own_outputs with_state record_of refuse_if ◌or_else◌
-    held-for inputs Accepted e held = rw (held-checked, held, e)
-    held-for inputs (Refused number place) e held =
+    held-for inputs (Ok _) e held = rw (held-checked, held, e)
+    held-for inputs (Err r) e held =
         rw (held-checked, held, e)
-        (ap (λ (l : List Record). record { answer = packed_verdict (Refused number place); row = l; outputs = out }) (sym (set-get_or row k free_record)))
+        (ap (λ (l : List Record). record { answer = packed_verdict (Refused r.number r.place); row = l; outputs = out }) (sym (set-get_or row k free_record)))
 
     pub stepping-held :
         (inputs : ℕ) →

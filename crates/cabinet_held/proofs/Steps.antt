@@ -1,4 +1,5 @@
 -- A step on a held personality, in its three cases: outputs past the 32nd, a buffer under 32 bytes, and its own part of the buffer.
+use Rattle.std.specs.Prelude.{Ok, Err}
 use Prim.Native.Nat.{ℕ, ◌+◌, ◌≤◌, ◌<◌}
 use mathlib.Core.Bool.{true, false}
 use mathlib.Core.List.{List, ◌++◌}
@@ -6,8 +7,8 @@ use mathlib.Core.Path.{◌≡◌, refl, sym, ◌∙◌}
 use native.Mathlib.Omega.{arith}
 use borrow.Author.Tests.{lt-ltb, le-ltb, ltb-false}
 use lib.ListN.{length, take, drop, length-take, length-drop}
-use Rattle.rules.specs.declared.answer.Verdict.{Verdict}
-use Rattle.rules.specs.declared.answer.Verdict.TheVariants.{Accepted, Refused}
+use Rattle.rules.specs.Verdicts.{Verdict}
+use Rattle.rules.specs.Verdicts.{Refused}
 use Rattle.rules.specs.Personality.{verdict_of}
 use Rattle.rules.specs.Verdicts.{◌or_else◌, refuse_if}
 use Rattle.board_answers.specs.Answers.{packed_verdict}
@@ -26,8 +27,8 @@ module _ (b : List ℕ) (first : ℕ) (old : List ℕ) (inputs : ℕ) (out : Lis
       past_last first (outputs_of b) ≡ true →
       record { answer = packed_verdict (held_checks b first); state = old; outputs = out } ≡ held_step b first old inputs out
   unfolding held_step held_step_for held_checks ◌or_else◌ refuse_if
-  past-for Accepted e past = rw (e, past)
-  past-for (Refused number place) e past = rw e
+  past-for (Ok _) e past = rw (e, past)
+  past-for (Err r) e past = rw e
 
   pub past-step :
       {r : ℕ} →
@@ -50,9 +51,9 @@ module _ (b : List ℕ) (first : ℕ) (old : List ℕ) (inputs : ℕ) (out : Lis
       verdict_of b ≡ v →
       record { answer = r; state = new; outputs = all } ≡ held_step b first old inputs out
   unfolding held_step held_step_for held_stepped held_checks ◌or_else◌ refuse_if packed_verdict
-  own-for part steps within own stored kept Accepted e = rw (e, within, stored, ← own, steps.0, steps.1, steps.2)
-  own-for part steps within own stored kept (Refused number place) e =
-      let same = refused b old inputs part (packed_verdict (Refused number place)) e refl in
+  own-for part steps within own stored kept (Ok _) e = rw (e, within, stored, ← own, steps.0, steps.1, steps.2)
+  own-for part steps within own stored kept (Err r) e =
+      let same = refused b old inputs part (packed_verdict (Refused r.number r.place)) e refl in
       rw (e, steps.0, ← same.0, steps.1, ← same.1, kept (steps.2 ∙ sym same.2))
 
   -- a buffer under 32 bytes lends nothing
@@ -84,3 +85,15 @@ module _ (b : List ℕ) (first : ℕ) (old : List ℕ) (inputs : ℕ) (out : Lis
       (λ kept. rw kept (part-kept out first count))
       (verdict_of b)
       refl
+
+  -- the same, where the code has the first output as another number
+  pub own-at :
+      {r : ℕ} {new shown : List ℕ} (start count : ℕ) →
+      start ≡ first →
+      count ≡ outputs_of b →
+      Answers b old inputs (take count (drop start out)) r new shown →
+      past_last first (outputs_of b) ≡ false →
+      32 ≤ length out →
+      length shown ≡ length (take count (drop start out)) →
+      record { answer = r; state = new; outputs = take start out ++ (shown ++ drop count (drop start out)) } ≡ held_step b first old inputs out
+  own-at start count h e steps within l same = rw h (own-step count e (rw h at steps) within l (rw h at same))

@@ -1,19 +1,14 @@
 -- Internal: no promise cites this file. The calls of a cabinet by what a record holds: the parts of specs/Cabinet.antt of `cabinet_records` that do not look at the row.
-use Rattle.std.specs.Prelude.{ℕ, ◌≤◌, Bool, not, ◌||◌, List, ◌≡◌, ltb, length, replicate}
-use Rattle.rules.specs.declared.answer.Verdict.{Verdict}
-use Rattle.rules.specs.declared.answer.Verdict.TheVariants.{Accepted, Refused}
+use Rattle.std.specs.Prelude.{ℕ, Bool, not, ◌||◌, List, ltb, length, replicate, Ok, Err}
+use Rattle.rules.specs.Verdicts.{Verdict}
+use Rattle.rules.specs.Verdicts.{Refused}
 use Rattle.rules.specs.Call.{handed_back}
 use Rattle.rules.specs.Colours.{red}
-use Rattle.rules.specs.Laws.{greatest_length}
 use Rattle.rules.specs.Personality.{verdict_of}
 use Rattle.rules.specs.Verdicts.{◌or_else◌, refuse_if}
 use Rattle.board_answers.specs.Answers.{packed_verdict}
 use Rattle.board_step.specs.StepCall.{step_answer, state_after, colours_after}
 use Rattle.cabinet_records.specs.Cabinet.{dark, outputs_of, past_last, outputs_in, written_at}
-
--- no place is above the length of the longest personality
-abbrev pub Near : Verdict → Type 0
-Near v = (number place : ℕ) → v ≡ Refused number place → place ≤ greatest_length
 
 -- ── Checks ──
 
@@ -54,9 +49,9 @@ pub record HeldStep : Type 0 where
   pub outputs : List ℕ
 
 unfoldable pub held_step_for : Verdict → HeldStep → List ℕ → List ℕ → HeldStep
-held_step_for Accepted done old out = done
-held_step_for (Refused number place) done old out =
-    record { answer = packed_verdict (Refused number place); state = old; outputs = out }
+held_step_for (Ok _) done old out = done
+held_step_for (Err r) done old out =
+    record { answer = packed_verdict (Refused r.number r.place); state = old; outputs = out }
 
 -- the step call on the held personality, lent its own outputs
 unfoldable pub held_stepped : List ℕ → ℕ → List ℕ → ℕ → List ℕ → List ℕ → HeldStep

@@ -1,18 +1,18 @@
 // The calls of a cabinet on the personality that a record holds: what they check, and what they write to the outputs.
 #![tactic(auto)]
 
-ghost use Rattle.std.specs.Prelude.{min, ◌&&◌, ◌≡◌, length};
+ghost use Rattle.std.specs.Prelude.{min, ◌≤◌, ◌&&◌, ◌≡◌, length, IfErr};
 ghost use Rattle.rules.specs.Laws.{greatest_length};
 ghost use Rattle.rules.specs.Personality.{verdict_of};
 ghost use Rattle.state_forms.specs.Forms.{two};
 ghost use Rattle.board_answers.specs.Answers.{packed_verdict};
 ghost use Rattle.cabinet_records.specs.Cabinet.{outputs_of, is_accepted, meet, past_last};
-ghost use Rattle.cabinet_held.specs.Held.{Near, held_checks, taking_checks, darkened, held_step};
+ghost use Rattle.cabinet_held.specs.Held.{held_checks, taking_checks, darkened, held_step};
 
 pub mod fills;
 pub mod placing;
 
-use rules::answer::Verdict;
+use rules::answer::Refusal;
 
 // The colour of a site's outputs as it begins, and of outputs without a site.
 const RED: u8 = 0;
@@ -23,11 +23,11 @@ const DARK: u8 = 4;
 pub fn held_size(size: &[u8; 2]) -> usize
     ensures { result ≡ min (two.read size.now 0) greatest_length }
 {
-    let told = base_bytes::two_at(size, 0);
-    if told < 477 { told as usize } else { 477 }
+    usize::from(base_bytes::two_at(size, 0)).min(477)
 }
 
 // How many outputs a personality has.
+#[tactic(auto, unfolding(cabinet_records::specs::Cabinet::outputs_of, rules::specs::Site::site_of, rules::specs::Personality::group_count))]
 pub fn outputs_of(personality: &[u8]) -> u8
     ensures { result ≡ outputs_of personality.now }
 {
@@ -35,34 +35,27 @@ pub fn outputs_of(personality: &[u8]) -> u8
 }
 
 // Whether a personality would be accepted.
+#[tactic(auto, unfolding(cabinet_records::specs::Cabinet::is_accepted))]
 fn is_accepted(personality: &[u8]) -> bool
     ensures { result ≡ is_accepted (verdict_of personality.now) }
 {
-    let verdict = read_personality::read(personality);
-    match verdict {
-        Verdict::Accepted => true,
-        Verdict::Refused { .. } => false,
-    }
+    read_personality::read(personality).is_ok()
 }
 
 // Whether outputs from `first` on go past the 32nd. The first output may be any number.
+#[tactic(auto, unfolding(cabinet_records::specs::Cabinet::past_last))]
 fn past_last(first: usize, count: u8) -> bool
     ensures { result ≡ past_last first count }
 {
-    if 32 < first {
-        return true;
-    }
-    32 < first + count as usize
+    first > 32 || first + usize::from(count) > 32
 }
 
 // Whether outputs from `first` on and outputs from `own` on have one in common. The second sum is made only if `first` is small.
+#[tactic(auto, unfolding(cabinet_records::specs::Cabinet::meet))]
 fn meet(first: usize, count: u8, own: u8, outputs: u8) -> bool
     ensures { result ≡ meet first count own outputs }
 {
-    if first < own as usize + outputs as usize {
-        return (own as usize) < first + count as usize;
-    }
-    false
+    first < usize::from(own) + usize::from(outputs) && usize::from(own) < first + usize::from(count)
 }
 
 // Whether a personality whose outputs begin at `own` would be accepted and has one of the `count` outputs from `first` on. The outputs are
@@ -70,73 +63,62 @@ fn meet(first: usize, count: u8, own: u8, outputs: u8) -> bool
 pub fn meets(personality: &[u8], own: u8, first: usize, count: u8) -> bool
     ensures { result ≡ (is_accepted (verdict_of personality.now) && meet first count own (outputs_of personality.now)) }
 {
-    if meet(first, count, own, outputs_of(personality)) {
-        return is_accepted(personality);
-    }
-    false
+    meet(first, count, own, outputs_of(personality)) && is_accepted(personality)
 }
 
 // The number and place of a refusal as one number, 0 if there is none.
-fn packed_verdict(verdict: Verdict) -> u64
-    requires { Near verdict }
+#[tactic(auto, unfolding(board_answers::specs::Answers::packed, board_answers::specs::Answers::packed_verdict))]
+fn packed_verdict(verdict: Result<(), Refusal>) -> u64
+    requires { IfErr verdict (λ refused. refused.place ≤ greatest_length) }
     ensures { result ≡ packed_verdict verdict }
 {
     match verdict {
-        Verdict::Accepted => 0,
-        Verdict::Refused { number, place } => board_answers::refusal(number, place),
+        Ok(()) => 0,
+        Err(Refusal { number, place }) => board_answers::refusal(number, place),
     }
 }
 
 // The checks of a held personality: its own, then 25.
-fn held_checks(personality: &[u8], first: u8) -> Verdict
+#[tactic(auto, using(rules::proofs::Checks::checks), unfolding(crate::specs::Held::held_checks))]
+fn held_checks(personality: &[u8], first: u8) -> Result<(), Refusal>
     ensures { result ≡ held_checks personality.now first }
 {
-    let verdict = read_personality::read(personality);
-    if let Verdict::Refused { .. } = verdict {
-        return verdict;
-    }
-    if past_last(first as usize, outputs_of(personality)) {
-        return Verdict::Refused {
+    read_personality::read(personality)?;
+    if past_last(usize::from(first), outputs_of(personality)) {
+        return Err(Refusal {
             number: 25,
             place: 0,
-        };
+        });
     }
-    Verdict::Accepted
+    Ok(())
 }
 
 // The checks of taking out: those of a held personality, then 14.
-fn taking_checks(personality: &[u8], first: u8, room: usize) -> Verdict
+#[tactic(auto, using(rules::proofs::Checks::checks), unfolding(crate::specs::Held::taking_checks))]
+fn taking_checks(personality: &[u8], first: u8, room: usize) -> Result<(), Refusal>
     ensures { result ≡ taking_checks personality.now first room }
 {
-    let verdict = held_checks(personality, first);
-    if let Verdict::Refused { .. } = verdict {
-        return verdict;
-    }
+    held_checks(personality, first)?;
     if room < 32 {
-        return Verdict::Refused {
+        return Err(Refusal {
             number: 14,
             place: 0,
-        };
+        });
     }
-    Verdict::Accepted
+    Ok(())
 }
 
 // Turns the outputs of a held personality dark, if it may be taken out.
-pub fn held_taking(personality: &[u8], first: u8, outputs: &mut [u8]) -> Verdict
+#[tactic(auto, using(rules::proofs::Checks::checks), unfolding(rules::specs::Call::handed_back, crate::specs::Held::turned))]
+pub fn held_taking(personality: &[u8], first: u8, outputs: &mut [u8]) -> Result<(), Refusal>
     ensures { (result ≡ taking_checks personality.now first (length outputs.old))
         × (outputs.new ≡ darkened personality.now first outputs.old) }
 {
-    let verdict = taking_checks(personality, first, outputs.len());
-    if let Verdict::Refused { .. } = verdict {
-        return verdict;
-    }
-    fills::fill(
-        outputs,
-        first as usize,
-        outputs_of(personality) as usize,
-        DARK,
-    );
-    verdict
+    taking_checks(personality, first, outputs.len())?;
+    let start = usize::from(first);
+    let end = start + usize::from(outputs_of(personality));
+    outputs[start..end].fill(DARK);
+    Ok(())
 }
 
 // A step call on a held personality, lent its own outputs. A buffer under 32 bytes lends none, so that the step itself answers 13, 15 or 14.
@@ -151,7 +133,7 @@ pub fn held_step(
     ensures { record { answer = result; state = state.new; outputs = outputs.new }
         ≡ held_step personality.now first state.old inputs outputs.old }
 {
-    let start = first as usize;
+    let start = usize::from(first);
     let count = outputs_of(personality);
     if past_last(start, count) {
         return packed_verdict(held_checks(personality, first));
@@ -159,6 +141,6 @@ pub fn held_step(
     if outputs.len() < 32 {
         return board_step::step(personality, state, inputs, &mut outputs[..0]);
     }
-    let end = start + count as usize;
+    let end = start + usize::from(count);
     board_step::step(personality, state, inputs, &mut outputs[start..end])
 }

@@ -1,91 +1,92 @@
 // Placing a personality: its checks, its outputs and its fresh state.
-ghost use Rattle.std.specs.Prelude.{not, ◌≡◌, ltb, length};
-ghost use Rattle.rules.specs.declared.answer.Verdict.TheVariants.{Accepted, Refused};
+ghost use Rattle.std.specs.Prelude.{not, ◌≡◌, ltb, length, IfOk};
+ghost use Rattle.rules.specs.Verdicts.{Refused};
+ghost use Rattle.rules.specs.Call.{bound_for};
 ghost use Rattle.rules.specs.Personality.{verdict_of};
 ghost use Rattle.rules.specs.Site.{site_of};
 ghost use Rattle.rules.specs.Timed.{fresh_timed};
-ghost use Rattle.rules.specs.Verdicts.{◌or_else◌, refuse_if};
-ghost use Rattle.read_layout.specs.LayoutOf.{LayoutOf};
+ghost use Rattle.rules.specs.Verdicts.{verdict, ◌or_else◌, refuse_if};
 ghost use Rattle.state_timed.specs.TimedLayout.{timed_encoded_over};
 ghost use Rattle.board_answers.specs.Answers.{packed_verdict};
 ghost use Rattle.cabinet_held.specs.Held.{placing_checks, reddened};
 
-use crate::fills::fill;
 use crate::{RED, outputs_of, past_last};
-use board_answers::refusal;
-use read_layout::Layout;
-use read_personality::Reading;
-use rules::answer::Verdict;
+use board_answers::answer;
+use read_layout::Personality;
+use read_personality::accepted;
+use rules::answer::Refusal;
 
 // The checks after the personality's own: 24, 25 and 14.
-fn checks(own: Verdict, free: bool, taken: bool, room: usize) -> Verdict
-    ensures { result ≡ (own or_else refuse_if (not free) 24 0 or_else refuse_if taken 25 0 or_else refuse_if (ltb room 32) 14 0) }
+#[tactic(auto, using(rules::proofs::Checks::checks))]
+fn checks(free: bool, taken: bool, room: usize) -> Result<(), Refusal>
+    ensures { result ≡ (refuse_if (not free) 24 0 or_else refuse_if taken 25 0 or_else refuse_if (ltb room 32) 14 0) }
 {
-    if let Verdict::Refused { .. } = own {
-        return own;
-    }
     if !free {
-        return Verdict::Refused {
+        return Err(Refusal {
             number: 24,
             place: 0,
-        };
+        });
     }
     if taken {
-        return Verdict::Refused {
+        return Err(Refusal {
             number: 25,
             place: 0,
-        };
+        });
     }
     if room < 32 {
-        return Verdict::Refused {
+        return Err(Refusal {
             number: 14,
             place: 0,
-        };
+        });
     }
-    Verdict::Accepted
+    Ok(())
 }
 
-// Turns the outputs of a personality red, if it may be placed. `met` says whether another record has one of them. The layout is for the
-// fresh state, so that the personality is read once.
-pub fn held_placing(
-    personality: &[u8],
+// Turns the outputs of a personality red, if it may be placed. `met` says whether another record has one of them. The accepted personality
+// is for the fresh state, so that it is read once.
+#[tactic(auto, using(rules::proofs::Checks::checks), unfolding(rules::specs::Call::handed_back, crate::specs::Held::placing_checks, crate::specs::Held::turned))]
+pub fn held_placing<'a>(
+    personality: &'a [u8],
     free: bool,
     met: bool,
     first: usize,
     outputs: &mut [u8],
-) -> Reading
-    ensures { (result.verdict ≡ placing_checks personality.now free met first (length outputs.old))
-        × LayoutOf personality.now result.layout
+) -> Result<Personality<'a>, Refusal>
+    ensures { (verdict result ≡ placing_checks personality.now free met first (length outputs.old))
+        × IfOk result (λ p. p ≡ personality.now)
         × (outputs.new ≡ reddened personality.now free met first outputs.old) }
 {
-    let reading = read_personality::read_with_layout(personality);
-    let own = reading.verdict;
-    let layout = reading.layout;
+    let p = accepted(personality)?;
     let count = outputs_of(personality);
-    let verdict = checks(own, free, past_last(first, count) | met, outputs.len());
-    if let Verdict::Accepted = verdict {
-        fill(outputs, first, count as usize, RED);
-    }
-    Reading { verdict, layout }
+    checks(free, past_last(first, count) || met, outputs.len())?;
+    outputs[first..first + usize::from(count)].fill(RED);
+    Ok(p)
+}
+
+#[tactic(auto, using(rules::proofs::Checks::checks), unfolding(rules::specs::Call::bound_for))]
+fn nowhere(personality: &[u8]) -> Result<u32, Refusal>
+    ensures { result ≡ bound_for (verdict_of personality.now or_else Refused 24 0) 0 }
+{
+    read_personality::read(personality)?;
+    Err(Refusal {
+        number: 24,
+        place: 0,
+    })
 }
 
 // The answer of placing where no record is free: the personality's own refusal, then 24.
+#[tactic(auto, using(board_answers::proofs::Answers::packed_plain))]
 pub fn placed_nowhere(personality: &[u8]) -> u64
     ensures { result ≡ packed_verdict (verdict_of personality.now or_else Refused 24 0) }
 {
-    let verdict = read_personality::read(personality);
-    match verdict {
-        Verdict::Accepted => refusal(24, 0),
-        Verdict::Refused { number, place } => refusal(number, place),
-    }
+    answer(nowhere(personality))
 }
 
 // Writes the fresh state of an accepted personality.
-pub fn fresh_state(personality: &[u8], layout: Layout, state: &mut [u8])
-    requires { (verdict_of personality.now ≡ Accepted) × LayoutOf personality.now layout }
-    ensures { state.new ≡ timed_encoded_over (fresh_timed (site_of personality.now)) state.old }
+pub fn fresh_state(p: &Personality, state: &mut [u8])
+    ensures { state.new ≡ timed_encoded_over (fresh_timed (site_of p.now)) state.old }
 {
     if state.len() == state_timed::TIMED_BYTES {
-        state_fresh::put_fresh(personality, layout, state);
+        state_fresh::put_fresh(p, state);
     }
 }

@@ -2,3 +2,4 @@ pub mod Stepping
 pub mod Taking
 pub mod Placing
 pub mod Rows
+pub mod Asked

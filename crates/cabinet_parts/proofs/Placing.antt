@@ -6,8 +6,8 @@ use mathlib.Core.Path.{◌≡◌, sym, ◌∙◌}
 use lib.ListN.{length, replicate}
 use lib.Seq.{sets}
 use borrow.Author.Tests.{eq-eqb}
-use Rattle.rules.specs.declared.answer.Verdict.{Verdict}
-use Rattle.rules.specs.declared.answer.Verdict.TheVariants.{Accepted, Refused}
+use Rattle.rules.specs.Verdicts.{Verdict}
+use Rattle.rules.specs.Verdicts.{Accepted, Refused}
 use Rattle.rules.specs.Call.{handed_back}
 use Rattle.rules.specs.Laws.{greatest_length}
 use Rattle.rules.specs.Site.{site_of}
@@ -19,7 +19,7 @@ use Rattle.cabinet_records.specs.declared.Record.{Record}
 use Rattle.cabinet_records.specs.Cabinet.{is_free, holding, fresh_bytes}
 use Rattle.cabinet_held.specs.Held.{placing_checks, turned, reddened}
 use Rattle.cabinet_parts.specs.Parts.{on_record_for, placed_parts}
-use Rattle.cabinet_parts.proofs.Taking.{overwritten}
+use Rattle.laws.proofs.Arrays.{sets-whole}
 
 module _ (r : Record) (met : Bool) (b : List ℕ) (first : ℕ) (out : List ℕ) {v : Verdict} {after : List ℕ}
     (told : v ≡ placing_checks b (is_free r) met first (length out)) (shown : after ≡ reddened b (is_free r) met first out) where
@@ -40,4 +40,4 @@ pub held-parts :
     record { held = 1; first = first; length = told; personality = personality; state = after } ≡ holding b first (fresh_bytes b)
 unfolding holding timed_encoded_over
 held-parts b size room state first wide d long e long' f =
-    rw (d ∙ overwritten size (two.written (length b)) (sym wide), e, f, long, eq-eqb (length state) timed_bytes long')
+    rw (d ∙ sets-whole size (two.written (length b)) (sym wide), e, f, long, eq-eqb (length state) timed_bytes long')

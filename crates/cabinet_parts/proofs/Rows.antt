@@ -1,12 +1,13 @@
 -- A call on a row is the call on the record that it names, if the row has it: a refused call stores the record as it was.
+use Rattle.std.specs.Prelude.{Ok, Err}
 use Prim.Native.Nat.{ℕ}
 use mathlib.Core.Bool.{Bool, true, false}
 use mathlib.Core.List.{List}
 use mathlib.Core.Path.{◌≡◌, refl, sym, ap, ◌∙◌}
 use lib.ListN.{length, get_or, set}
 use lib.Seq.{set-get_or}
-use Rattle.rules.specs.declared.answer.Verdict.{Verdict}
-use Rattle.rules.specs.declared.answer.Verdict.TheVariants.{Accepted, Refused}
+use Rattle.rules.specs.Verdicts.{Verdict}
+use Rattle.rules.specs.Verdicts.{Refused}
 use Rattle.rules.specs.Verdicts.{◌or_else◌, refuse_if}
 use Rattle.board_answers.specs.Answers.{packed_verdict}
 use Rattle.cabinet_records.specs.declared.Record.{Record}
@@ -45,9 +46,9 @@ module _ (row : List Record) (out : List ℕ) (k : ℕ) (has : has_record row k 
 
   in-row : (v : Verdict) (done : OnRecord) → in_row (on_record_for v done own out) ≡ returned_for v (in_row done) row out
   unfolding on_record_for returned_for
-  in-row Accepted done = refl
-  in-row (Refused number place) done =
-      ap (λ (l : List Record). record { answer = packed_verdict (Refused number place); row = l; outputs = out }) (set-get_or row k free_record)
+  in-row (Ok _) done = refl
+  in-row (Err r) done =
+      ap (λ (l : List Record). record { answer = packed_verdict (Refused r.number r.place); row = l; outputs = out }) (set-get_or row k free_record)
 
   pub taking-done :
       {answer : ℕ} {kept : Record} {after : List ℕ} →

@@ -1,17 +1,15 @@
 -- Taking out, by cases: a free record is refused with 24; a held one is what the call on its personality gives.
-use Prim.Native.Nat.{ℕ, ◌+◌}
+use Prim.Native.Nat.{ℕ}
 use mathlib.Core.Bool.{true, false}
-use mathlib.Core.List.{List, ◌++◌, append-nil}
-use mathlib.Core.Path.{◌≡◌, sym, ap, ◌∙◌}
-use native.Mathlib.Omega.{arith}
-use lib.ListN.{length, drop, replicate, length-replicate}
-use lib.Seq.{sets, sets-eq, drop-length}
+use mathlib.Core.List.{List}
+use mathlib.Core.Path.{◌≡◌, sym, ◌∙◌}
+use lib.ListN.{length, replicate}
 use Rattle.rules.specs.Laws.{greatest_length}
 use Rattle.state_forms.specs.Forms.{two}
 use Rattle.state_timed.specs.TimedLayout.{timed_bytes}
 use borrow.Author.Tests.{eq-eqb, ne_eqb}
-use Rattle.rules.specs.declared.answer.Verdict.{Verdict}
-use Rattle.rules.specs.declared.answer.Verdict.TheVariants.{Accepted, Refused}
+use Rattle.rules.specs.Verdicts.{Verdict}
+use Rattle.rules.specs.Verdicts.{Accepted, Refused}
 use Rattle.rules.specs.Call.{handed_back}
 use Rattle.rules.specs.Verdicts.{◌or_else◌, refuse_if}
 use Rattle.board_answers.specs.Answers.{packed, packed_verdict}
@@ -29,6 +27,15 @@ unfolding is_free
 held-record r e = ne_eqb r.held 0 e
 
 -- ── Taking out ──
+
+pub cleared :
+    (size room state : List ℕ) {told personality after : List ℕ} →
+    length size ≡ two.width → told ≡ replicate (length size) 0 →
+    length room ≡ greatest_length → personality ≡ replicate (length room) 0 →
+    length state ≡ timed_bytes → after ≡ replicate (length state) 0 →
+    record { held = 0; first = 0; length = told; personality = personality; state = after } ≡ free_record
+unfolding free_record
+cleared size room state wide d long e long' f = rw (d, wide, e, long, f, long')
 
 module _ (r : Record) (out : List ℕ) where
   pub taking-free : {answer : ℕ} → is_free r ≡ true → answer ≡ packed 24 0 → record { answer = answer; kept = r; outputs = out } ≡ taken_out_parts r out
@@ -56,33 +63,3 @@ module _ (r : Record) (out : List ℕ) where
         record { answer = answer; kept = r; outputs = after } ≡ taken_out_parts r out
     unfolding taken_out_parts on_record_for ◌or_else◌ refuse_if turned handed_back packed_verdict
     taking-refused f p = rw (shown, own, held, checked ∙ f, p)
-
--- ── A record that is cleared ──
-
--- a whole list, overwritten
-pub overwritten : (l new : List ℕ) → length new ≡ length l → sets l 0 new ≡ new
-overwritten l new same =
-    sets-eq new l 0 (omega (arith, same))
-    ∙ (let whole : 0 + length new ≡ length l = omega (arith, same) in ap (λ (n : ℕ). new ++ drop n l) whole)
-    ∙ ap (λ (rest : List ℕ). new ++ rest) (drop-length l)
-    ∙ append-nil new
-
-cleared : (l : List ℕ) {after : List ℕ} (n : ℕ) → length l ≡ n → after ≡ sets l 0 (replicate n 0) → after ≡ replicate n 0
-cleared l n long e = e ∙ overwritten l (replicate n 0) (omega (arith, long, length-replicate {A = ℕ} n 0))
-
-pub cleared-record :
-    (size room state : List ℕ) {none personality after : List ℕ} →
-    length size ≡ two.width → none ≡ sets size 0 (replicate two.width 0) →
-    length room ≡ greatest_length → personality ≡ sets room 0 (replicate greatest_length 0) →
-    length state ≡ timed_bytes → after ≡ sets state 0 (replicate timed_bytes 0) →
-    record { held = 0; first = 0; length = none; personality = personality; state = after } ≡ free_record
-unfolding free_record
-cleared-record size room state k d l e m f =
-    λ i.
-    record {
-      held = 0;
-      first = 0;
-      length = cleared size two.width k d i;
-      personality = cleared room greatest_length l e i;
-      state = cleared state timed_bytes m f i;
-    }

@@ -1,7 +1,7 @@
 -- Internal: no promise cites this file. The calls of a cabinet by the record that they name, and what became of it and of the outputs.
-use Rattle.std.specs.Prelude.{ℕ, Bool, List, length, replicate, if◌then◌else◌}
-use Rattle.rules.specs.declared.answer.Verdict.{Verdict}
-use Rattle.rules.specs.declared.answer.Verdict.TheVariants.{Accepted, Refused}
+use Rattle.std.specs.Prelude.{ℕ, Bool, List, length, replicate, if◌then◌else◌, Ok, Err}
+use Rattle.rules.specs.Verdicts.{Verdict}
+use Rattle.rules.specs.Verdicts.{Refused}
 use Rattle.rules.specs.Colours.{red}
 use Rattle.rules.specs.Verdicts.{◌or_else◌, refuse_if}
 use Rattle.board_answers.specs.Answers.{packed_verdict}
@@ -23,8 +23,8 @@ pub record OnRecord : Type 0 where
   pub outputs : List ℕ
 
 unfoldable pub on_record_for : Verdict → OnRecord → Record → List ℕ → OnRecord
-on_record_for Accepted done r out = done
-on_record_for (Refused number place) done r out = record { answer = packed_verdict (Refused number place); kept = r; outputs = out }
+on_record_for (Ok _) done r out = done
+on_record_for (Err r') done r out = record { answer = packed_verdict (Refused r'.number r'.place); kept = r; outputs = out }
 
 -- placing, by whether another record has one of the outputs
 unfoldable pub placed_parts : Record → Bool → List ℕ → ℕ → List ℕ → OnRecord

@@ -1,4 +1,5 @@
 -- What a call leaves alone: it writes the record that it names and its own outputs, and a refused call nothing.
+use Rattle.std.specs.Prelude.{Ok, Err}
 use Prim.Native.Nat.{ℕ, ◌%◌}
 use mathlib.Core.List.{List}
 use mathlib.Core.Logic.{◌⊎◌, inl, inr, ⊎_elim}
@@ -6,8 +7,8 @@ use mathlib.Core.Path.{◌≡◌, refl, ap, ◌∙◌}
 use native.Mathlib.Omega.{arith}
 use lib.ListN.{length, set, length-set}
 use lib.Seq.{get_or-set_other, set-get_or}
-use Rattle.rules.specs.declared.answer.Verdict.{Verdict}
-use Rattle.rules.specs.declared.answer.Verdict.TheVariants.{Accepted, Refused}
+use Rattle.rules.specs.Verdicts.{Verdict}
+use Rattle.rules.specs.Verdicts.{Accepted}
 use Rattle.rules.specs.declared.site.Site.{Site}
 use Rattle.rules.specs.declared.state.State.{State}
 use Rattle.rules.specs.Colours.{red}
@@ -31,8 +32,8 @@ written-for :
     done.row ≡ set row k r →
     Written row k (returned_for v done row out).row
 unfolding returned_for
-written-for Accepted done row out k r e = inr (r, e)
-written-for (Refused number at) done row out k r e = inl refl
+written-for (Ok _) done row out k r e = inr (r, e)
+written-for (Err r') done row out k r e = inl refl
 
 pub written : (row : List Record) (out : List ℕ) (act : Act) → Written row (record_named act) (doing row out act).row
 unfolding doing record_named placing stepping stepped taking_out
@@ -63,8 +64,8 @@ outside-for :
     (v ≡ Accepted → SameOutside first count out done.outputs) →
     SameOutside first count out (returned_for v done row out).outputs
 unfolding returned_for
-outside-for Accepted done row out h = h refl
-outside-for (Refused number at) done row out h = same-all
+outside-for (Ok _) done row out h = h refl
+outside-for (Err r) done row out h = same-all
 
 pub same-outside : (row : List Record) (out : List ℕ) (act : Act) → SameOutside (first_named row act) (outputs_of (personality_named row act)) out (doing row out act).outputs
 unfolding doing placing stepping stepped taking_out first_named personality_named own_outputs
@@ -98,8 +99,8 @@ module _ (b s : List ℕ) (inputs : ℕ) (buffer : List ℕ) where
       (v : Verdict) (wait : ℕ) (ruled : Site) (next : State) (new : List ℕ) →
       Left (packed_outcome (bound_for v wait)) (handed_back v new s) (buffer_for v ruled next buffer)
   unfolding bound_for handed_back buffer_for packed_outcome packed
-  left-for Accepted wait ruled next new refused = absurd (refused (omega arith))
-  left-for (Refused number at) wait ruled next new refused = (refl, refl)
+  left-for (Ok _) wait ruled next new refused = absurd (refused (omega arith))
+  left-for (Err r) wait ruled next new refused = (refl, refl)
 
   step_left : Left (step_answer b s inputs (length buffer)) (state_after b s inputs (length buffer)) (colours_after b s inputs buffer)
   unfolding step_answer state_after colours_after
@@ -110,8 +111,8 @@ Leaves done row out = (done.answer % 256 ≡ 0 → ⊥) → (done.row ≡ row) �
 
 leaves-for : (v : Verdict) (done : Returned) (row : List Record) (out : List ℕ) → (v ≡ Accepted → Leaves done row out) → Leaves (returned_for v done row out) row out
 unfolding returned_for
-leaves-for Accepted done row out h = h refl
-leaves-for (Refused number at) done row out h = λ refused. (refl, refl)
+leaves-for (Ok _) done row out h = h refl
+leaves-for (Err r) done row out h = λ refused. (refl, refl)
 
 step-leaves :
     (row : List Record) (out : List ℕ) (k inputs : ℕ) →

@@ -1,4 +1,5 @@
 -- The outputs of a record: a part of the buffer, and the buffer with that part written.
+use Rattle.std.specs.Prelude.{Ok, Err}
 use Prim.Native.Nat.{ℕ, ◌+◌, ◌-◌, ◌≤◌, ◌<◌}
 use mathlib.Core.Bool.{Bool, true, false, not}
 use mathlib.Core.List.{List, [], ◌∷◌, ◌++◌}
@@ -10,8 +11,8 @@ use borrow.Author.Tests.{ltb-false}
 use lib.Dec.{ltb}
 use lib.ListN.{length, take, drop, replicate, length-append, length-take, length-drop, length-replicate, take-append-drop, get_or-append}
 use lib.Seq.{get_or-append-add, get_or-take, get_or-drop, take_at, drop_at, drop-drop}
-use Rattle.rules.specs.declared.answer.Verdict.{Verdict}
-use Rattle.rules.specs.declared.answer.Verdict.TheVariants.{Accepted, Refused}
+use Rattle.rules.specs.Verdicts.{Verdict}
+use Rattle.rules.specs.Verdicts.{Accepted}
 use Rattle.laws.specs.Bytes.{byte_at}
 use Rattle.rules.specs.Verdicts.{◌or_else◌, refuse_if}
 use Rattle.rules.specs.Personality.{verdict_of}
@@ -45,14 +46,14 @@ module _ (b old : List ℕ) (inputs : ℕ) (buffer : List ℕ) where
       let next = stepped_in b old inputs in
       length (buffer_for v (ruled_site (site_of b) next) next.core buffer) ≡ length buffer
   unfolding buffer_for colours_of
-  buffer-length-for Accepted e =
+  buffer-length-for (Ok _) e =
       let next = stepped_in b old inputs in
       let site = ruled_site (site_of b) next in
       let count = site.size.groups in
       let colours = colours_of site next.core in
       let rest = drop count buffer in
       omega (arith, room-enough e, length-append colours rest, list_length (shown_in site next.core) count, length-drop count buffer)
-  buffer-length-for (Refused number place) e = refl
+  buffer-length-for (Err r) e = refl
 
   pub colours-length : length (colours_after b old inputs buffer) ≡ length buffer
   unfolding colours_after

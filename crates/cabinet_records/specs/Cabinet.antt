@@ -1,8 +1,8 @@
 -- Request ten of document 02: four sites in one cabinet. The cabinet has a row of four records and 32 outputs. One call places a site, one steps it,
 -- one takes it out. A step does to its record's bytes and to its own outputs what the step call on bytes does (board_step/specs/StepCall.antt).
-use Rattle.std.specs.Prelude.{ℕ, ◌+◌, ◌-◌, Bool, true, false, not, ◌&&◌, ◌||◌, List, [], ◌++◌, ◌≡◌, eqb, ltb, length, take, drop, get_or, replicate, set, if◌then◌else◌}
-use Rattle.rules.specs.declared.answer.Verdict.{Verdict}
-use Rattle.rules.specs.declared.answer.Verdict.TheVariants.{Accepted, Refused}
+use Rattle.std.specs.Prelude.{ℕ, ◌+◌, ◌-◌, Bool, true, false, not, ◌&&◌, ◌||◌, List, [], ◌++◌, ◌≡◌, eqb, ltb, length, take, drop, get_or, replicate, set, if◌then◌else◌, Ok, Err}
+use Rattle.rules.specs.Verdicts.{Verdict}
+use Rattle.rules.specs.Verdicts.{Refused}
 use Rattle.laws.specs.Folds.{any_of}
 use Rattle.rules.specs.Verdicts.{◌or_else◌, refuse_if}
 use Rattle.rules.specs.Personality.{verdict_of}
@@ -85,8 +85,8 @@ unfoldable pub past_last : ℕ → ℕ → Bool
 past_last first count = ltb output_count (first + count)
 
 unfoldable pub is_accepted : Verdict → Bool
-is_accepted Accepted = true
-is_accepted (Refused number place) = false
+is_accepted (Ok _) = true
+is_accepted (Err r) = false
 
 -- a free record has no outputs, and one whose personality would be refused has none
 unfoldable pub has_outputs : Record → Bool
@@ -148,8 +148,8 @@ pub record Returned : Type 0 where
 
 -- a refusal leaves the row and the outputs
 unfoldable pub returned_for : Verdict → Returned → List Record → List ℕ → Returned
-returned_for Accepted done row out = done
-returned_for (Refused number place) done row out = record { answer = packed_verdict (Refused number place); row = row; outputs = out }
+returned_for (Ok _) done row out = done
+returned_for (Err r) done row out = record { answer = packed_verdict (Refused r.number r.place); row = row; outputs = out }
 
 -- the bytes of the fresh state of a personality
 abbrev pub fresh_bytes : List ℕ → List ℕ

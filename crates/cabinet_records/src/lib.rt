@@ -18,6 +18,7 @@ pub struct Record {
 }
 
 // A free record: zeros. That the contract holds shows that the arrays have the lengths of the definitions.
+#[tactic(auto, unfolding(crate::specs::Cabinet::free_record))]
 pub fn free_record() -> Record
     ensures { result ≡ free_record }
 {

@@ -1,50 +1,40 @@
--- A refusal, or parts that hold the personality and outputs that are red.
-use mathlib.Core.Path.{sym, subst⁻¹, ◌∙◌}
-use native.Mathlib.Omega.{arith}
-use Rattle.cabinet_records.specs.declared.Record.{Record}
+-- A refusal, or a record that holds the personality and outputs that are red.
+use Rattle.std.proofs.Common.{arith, sym, ◌∙◌}
+use Rattle.rules.proofs.Checks.{verdict_ok, verdict_err}
 use Rattle.cabinet_records.specs.Cabinet.{is_free}
-use Rattle.cabinet_held.specs.Held.{Near}
-use Rattle.cabinet_held.proofs.Checks.{placing-near, placing-read, placing-within, accepted-fits}
+use Rattle.cabinet_held.proofs.Checks.{placing-near, placing-read, placing-within, accepted-fits, near_err}
 use Rattle.cabinet_parts.proofs.Placing.{placing-refused, placing-accepted, held-parts}
 use Rattle.cabinet_parts.proofs.place.Goals as goal
 
 pub refusal-requires : goal.refusal-requires
-refusal-requires c = subst⁻¹ Near c.held_placing-reading.ensures.0 (placing-near _ _ _ _ _) _ _ c.in-Refused.is
+refusal-requires c = near_err c.held_placing.ensures.0 (placing-near _ _ _ _ _) (verdict_err c.in-Err.is)
 
-pub returns-in-Refused : goal.returns-in-Refused
+pub returns-in-Err : goal.returns-in-Err
 unfolding is_free
-returns-in-Refused c =
-    let a = c.args in
-    let own : Record = record { held = a.held.now; first = a.own.now; length = a.size.now; personality = a.room.now; state = a.state.now } in
-    let asked = c.held_placing-reading in
-    placing-refused own _ _ _ _ asked.ensures.0 asked.ensures.2 c.in-Refused.is c.refusal.ensures
+returns-in-Err c =
+    let asked = c.held_placing in
+    placing-refused c.args.own.now _ _ _ _ asked.ensures.0 asked.ensures.2 (verdict_err c.in-Err.is) c.refusal.ensures
 
 pub overflow_cast-own : goal.overflow_cast-own
 overflow_cast-own c =
-    let within = placing-within _ _ _ _ _ (sym c.held_placing-reading.ensures.0 ∙ c.in_default.is) in
+    let within = placing-within _ _ _ _ _ (sym c.held_placing.ensures.0 ∙ verdict_ok c.in-Ok.is) in
     record { fits = omega (arith, within) }
 
 pub overflow_cast-personality : goal.overflow_cast-personality
 overflow_cast-personality c =
-    let read = placing-read _ _ _ _ _ (sym c.held_placing-reading.ensures.0 ∙ c.in_default.is) in
+    let read = placing-read _ _ _ _ _ (sym c.held_placing.ensures.0 ∙ verdict_ok c.in-Ok.is) in
     record { fits = omega (arith, accepted-fits _ read) }
 
 pub store-requires : goal.store-requires
 store-requires c =
-    let read = placing-read _ _ _ _ _ (sym c.held_placing-reading.ensures.0 ∙ c.in_default.is) in
-    omega (arith, accepted-fits _ read, c.told-room)
+    let read = placing-read _ _ _ _ _ (sym c.held_placing.ensures.0 ∙ verdict_ok c.in-Ok.is) in
+    omega (arith, accepted-fits _ read)
 
-pub fresh_state-requires : goal.fresh_state-requires
-fresh_state-requires c =
-    let asked = c.held_placing-reading in
-    (placing-read _ _ _ _ _ (sym asked.ensures.0 ∙ c.in_default.is), asked.ensures.1)
-
-pub returns : goal.returns
+pub returns-in-Ok : goal.returns-in-Ok
 unfolding is_free
-returns c =
-    let a = c.args in
-    let own : Record = record { held = a.held.now; first = a.own.now; length = a.size.now; personality = a.room.now; state = a.state.now } in
-    let asked = c.held_placing-reading in
-    placing-accepted own _ _ _ _ asked.ensures.0 asked.ensures.2 c.in_default.is
-    (held-parts a.personality.now a.size.now a.room.now a.state.now a.first
-    c.told-size c.put_two.ensures c.told-room c.store.ensures c.told-state c.fresh_state.ensures)
+returns-in-Ok c =
+    let own = c.args.own.now in
+    let asked = c.held_placing in
+    placing-accepted own _ _ _ _ asked.ensures.0 asked.ensures.2 (verdict_ok c.in-Ok.is)
+    (held-parts c.args.personality.now own.length own.personality own.state c.args.first
+    (omega arith) c.put_two.ensures (omega arith) c.store.ensures (omega arith) (rw c.in-Ok.ensures.1 at c.fresh_state.ensures))

@@ -1,31 +1,29 @@
 -- A free record is refused; a held one is taken out.
-use mathlib.Core.Path.{subst⁻¹}
-use Rattle.cabinet_records.specs.declared.Record.{Record}
-use Rattle.cabinet_held.specs.Held.{Near}
-use Rattle.cabinet_held.proofs.Checks.{taking-near}
+use Rattle.std.proofs.Common.{arith}
+use Rattle.cabinet_held.proofs.Checks.{taking-near, near_err}
 use Rattle.cabinet_held.proofs.Room.{room-part}
-use Rattle.cabinet_parts.proofs.Taking.{free-record, held-record, taking-free, taking-accepted, taking-refused, cleared-record}
+use Rattle.cabinet_parts.proofs.Taking.{free-record, held-record, taking-free, taking-accepted, taking-refused, cleared}
 use Rattle.cabinet_parts.proofs.take_out.Goals as goal
 
-pub returns-then-mark-eq0 : goal.returns-then-mark-eq0
-returns-then-mark-eq0 c = taking-free _ _ (free-record _ c.if-mark-eq0.true) c.refusal.ensures
+pub returns-then-own-eq0 : goal.returns-then-own-eq0
+returns-then-own-eq0 c = taking-free _ _ (free-record _ c.if-own-eq0.true) c.refusal.ensures
 
-pub refusal-requires-in-Refused : goal.refusal-requires-in-Refused
-refusal-requires-in-Refused c = subst⁻¹ Near c.held_taking-verdict.ensures.0 (taking-near _ _ _) _ _ c.in-Refused.is
+pub refusal-requires-in-Err : goal.refusal-requires-in-Err
+refusal-requires-in-Err c = near_err c.held_taking.ensures.0 (taking-near _ _ _) c.in-Err.is
 
-pub returns-in-Refused : goal.returns-in-Refused
-returns-in-Refused c =
-    let a = c.args in
-    let own : Record = record { held = a.held.now; first = a.first.now; length = a.size.now; personality = a.room.now; state = a.state.now } in
-    let asked = c.held_taking-verdict in
-    taking-refused own _ (held-record own c.if-mark-eq0.false) (room-part own c.told-room c.held_size-count.ensures) asked.ensures.0 asked.ensures.1
-    c.in-Refused.is c.refusal-in-Refused.ensures
+pub returns-in-Err : goal.returns-in-Err
+returns-in-Err c =
+    let own = c.args.own.now in
+    let asked = c.held_taking in
+    taking-refused own _ (held-record own c.if-own-eq0.false) (room-part own (omega arith) c.held_size-count.ensures) asked.ensures.0 asked.ensures.1
+    c.in-Err.is c.refusal-in-Err.ensures
 
-pub returns : goal.returns
-returns c =
-    let a = c.args in
-    let own : Record = record { held = a.held.now; first = a.first.now; length = a.size.now; personality = a.room.now; state = a.state.now } in
-    let asked = c.held_taking-verdict in
-    taking-accepted own _ (held-record own c.if-mark-eq0.false) (room-part own c.told-room c.held_size-count.ensures) asked.ensures.0 asked.ensures.1
-    c.in_default.is
-    (cleared-record own.length own.personality own.state c.told-size c.fill.ensures c.told-room c.fill-2.ensures c.told-state c.fill-3.ensures)
+pub returns-in-Ok : goal.returns-in-Ok
+returns-in-Ok c =
+    let own = c.args.own.now in
+    let asked = c.held_taking in
+    taking-accepted own _ (held-record own c.if-own-eq0.false) (room-part own (omega arith) c.held_size-count.ensures) asked.ensures.0 asked.ensures.1
+    c.in-Ok.is
+    (cleared own.length own.personality own.state (omega arith) (c.fill.ensures.after (λ y same. same))
+    (omega arith) (c.fill-in-Ok.ensures.after (λ y same. same))
+    (omega arith) (c.fill-in-Ok-2.ensures.after (λ y same. same)))

@@ -1,37 +1,31 @@
--- By the two cases of the verdict.
-use mathlib.Core.Path.{◌≡◌, sym, ◌∙◌}
-use native.Mathlib.Omega.{arith}
-use lib.ListN.{length}
+-- Past the refusals the outputs are among the 32, and have room in the buffer.
+use Rattle.std.proofs.Common.{◌≡◌, sym, refl, arith, length, ◌+◌, ◌-◌}
+use Rattle.rules.specs.Verdicts.{Accepted, verdict}
 use Rattle.rules.specs.Colours.{red}
+use Rattle.rules.proofs.Checks.{checks}
+use Rattle.cabinet_records.specs.Cabinet.{outputs_of}
 use Rattle.cabinet_held.specs.Held.{placing_checks}
-use Rattle.cabinet_held.proofs.Checks.{placing-fits}
-use Rattle.cabinet_held.proofs.Turned.{turned-refused, turned-accepted}
+use Rattle.cabinet_held.proofs.Checks.{placing-fits, placing-within}
+use Rattle.cabinet_held.proofs.Turned.{turned-filled}
 use Rattle.cabinet_held.proofs.placing.held_placing.Goals as goal
 
-pub fill-requires : goal.fill-requires
+passed : (c : goal.After-from) → let a = c.args in placing_checks a.personality.now a.free a.met a.first (length a.outputs.now) ≡ Accepted
 unfolding placing_checks
-fill-requires c =
-    let a = c.args in
-    let checked : c.checks-verdict.result ≡ placing_checks a.personality.now a.free a.met a.first (length a.outputs.now)
-    = rw (← c.read_with_layout-reading.ensures.0, ← c.outputs_of-count.ensures, ← c.past_last.ensures) c.checks-verdict.ensures in
-    omega (arith, placing-fits _ _ _ _ _ (sym checked ∙ c.in-Accepted.is), c.outputs_of-count.ensures)
+passed c = grind (arith, checks)
 
-pub returns-in-Accepted : goal.returns-in-Accepted
-unfolding placing_checks
-returns-in-Accepted c =
+pub overflow_add-first : goal.overflow_add-first
+overflow_add-first c = record { fits = omega (arith, placing-within _ _ _ _ _ (passed c), c.outputs_of-count.ensures) }
+
+pub slice_bounds-fill-end : goal.slice_bounds-fill-end
+slice_bounds-fill-end c = omega (arith, placing-fits _ _ _ _ _ (passed c), c.outputs_of-count.ensures)
+
+pub returns : goal.returns
+unfolding verdict placing_checks
+returns c =
     let a = c.args in
-    let checked : c.checks-verdict.result ≡ placing_checks a.personality.now a.free a.met a.first (length a.outputs.now)
-    = rw (← c.read_with_layout-reading.ensures.0, ← c.outputs_of-count.ensures, ← c.past_last.ensures) c.checks-verdict.ensures in
-    let fits = placing-fits _ _ _ _ _ (sym checked ∙ c.in-Accepted.is) in (
-      checked,
-      c.read_with_layout-reading.ensures.1,
-      c.fill.ensures ∙ turned-accepted red _ _ _ checked c.in-Accepted.is c.outputs_of-count.ensures fits,
+    let accepted : placing_checks a.personality.now a.free a.met a.first (length a.outputs.now) ≡ Accepted = grind (arith, checks) in
+    let count : a.first + c.from.result - a.first ≡ outputs_of a.personality.now = omega (arith, c.outputs_of-count.ensures) in (
+      sym accepted,
+      c.in_ok-p.ensures.bytes,
+      turned-filled red _ _ _ accepted refl count (placing-fits _ _ _ _ _ accepted) (c.fill.ensures.after (λ y same. same)),
     )
-
-pub returns-in_default : goal.returns-in_default
-unfolding placing_checks
-returns-in_default c =
-    let a = c.args in
-    let checked : c.checks-verdict.result ≡ placing_checks a.personality.now a.free a.met a.first (length a.outputs.now)
-    = rw (← c.read_with_layout-reading.ensures.0, ← c.outputs_of-count.ensures, ← c.past_last.ensures) c.checks-verdict.ensures in
-    (checked, c.read_with_layout-reading.ensures.1, turned-refused red _ _ _ checked c.in_default.is)

@@ -1,19 +1,9 @@
--- By the two cases of the verdict.
-use mathlib.Core.Path.{sym, ◌∙◌}
-use Rattle.rules.specs.Verdicts.{◌or_else◌}
-use Rattle.board_answers.specs.Answers.{packed_verdict}
-use Rattle.board_answers.proofs.Answers.{refused-near}
+-- Its refusals are those of the personality, and 24 at 0.
+use Rattle.std.proofs.Common.{true}
+use Rattle.rules.specs.Verdicts.{refuse_if}
+use Rattle.board_answers.proofs.Answers.{near_read, near_if, near_or, near_outcome}
 use Rattle.cabinet_held.proofs.placing.placed_nowhere.Goals as goal
 
-pub refusal-requires-in-Refused : goal.refusal-requires-in-Refused
-refusal-requires-in-Refused c =
-    let read = c.read-verdict in
-    refused-near _ read.result read.ensures c.in-Refused.is
-
-pub returns-in-Accepted : goal.returns-in-Accepted
-unfolding ◌or_else◌ packed_verdict
-returns-in-Accepted c = rw (sym c.read-verdict.ensures ∙ c.in-Accepted.is, c.refusal.ensures)
-
-pub returns-in-Refused : goal.returns-in-Refused
-unfolding ◌or_else◌ packed_verdict
-returns-in-Refused c = rw (sym c.read-verdict.ensures ∙ c.in-Refused.is, c.refusal-in-Refused.ensures)
+pub answer-requires : goal.answer-requires
+unfolding refuse_if
+answer-requires c = near_outcome _ _ c.nowhere.ensures (near_or _ _ (near_read _) (near_if true 24))
