@@ -1,4 +1,5 @@
 -- An answer reads back as the outcome or the verdict that it was packed from: the number of a refusal is not 0 and fits its byte.
+use Rattle.std.specs.Prelude.{Ok, Err}
 use Prim.Native.Nat.{ℕ, ◌/◌, ◌%◌, ◌≤◌, ◌<◌}
 use mathlib.Core.Bool.{true}
 use mathlib.Core.List.{List}
@@ -7,9 +8,9 @@ use mathlib.Core.Path.{◌≡◌, refl}
 use native.Mathlib.Omega.{arith}
 use borrow.Author.Tests.{eqb-true, ne_eqb}
 use lib.Dec.{eqb}
-use Rattle.rules.specs.declared.answer.Outcome.TheVariants.{Stepped, StepRefused}
-use Rattle.rules.specs.declared.answer.Verdict.{Verdict}
-use Rattle.rules.specs.declared.answer.Verdict.TheVariants.{Accepted, Refused}
+use Rattle.rules.specs.Verdicts.{Stepped, StepRefused}
+use Rattle.rules.specs.Verdicts.{Verdict}
+use Rattle.rules.specs.Verdicts.{Accepted, Refused}
 use Rattle.rules.specs.Personality.{verdict_of}
 use Rattle.rules.specs.Site.{site_of}
 use Rattle.rules.specs.Timed.{TimedState, timed_valid}
@@ -54,13 +55,13 @@ outcome-stepped wait = rw (low_part 0 wait (omega arith), high_part 0 wait (omeg
 
 outcome-for : (v : Verdict) (wait : ℕ) → Refusals Fits v → outcome_in (packed_outcome (bound_for v wait)) ≡ bound_for v wait
 unfolding bound_for packed_outcome
-outcome-for Accepted wait fits = outcome-stepped wait
-outcome-for (Refused number place) wait fits = outcome-refused number place (fits number place refl)
+outcome-for (Ok _) wait fits = outcome-stepped wait
+outcome-for (Err r) wait fits = outcome-refused r.number r.place (fits r.number r.place refl)
 
 verdict-for : (v : Verdict) → Refusals Fits v → verdict_in (packed_verdict v) ≡ v
 unfolding packed_verdict packed verdict_in
-verdict-for Accepted fits = refl
-verdict-for (Refused number place) fits = verdict-refused number place (fits number place refl)
+verdict-for (Ok _) fits = refl
+verdict-for (Err r) fits = verdict-refused r.number r.place (fits r.number r.place refl)
 
 -- ── The answers of the calls ──
 

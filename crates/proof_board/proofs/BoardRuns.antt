@@ -1,5 +1,6 @@
 -- A run of the library's calls is a run of the rules. An answer reads back as the outcome that it was packed from; the bytes of a state read back as
 -- the state; and each call leaves the bytes of the state that the rules hand back, so call by call nothing differs.
+use Rattle.std.specs.Prelude.{Ok, Err}
 use Prim.Native.Nat.{ℕ}
 use mathlib.Core.Bool.{Bool, true, false, not}
 use mathlib.Core.List.{List, map}
@@ -8,8 +9,8 @@ use native.Mathlib.Omega.{arith}
 use borrow.Author.Tests.{eqb-true, eq-eqb}
 use lib.Dec.{eqb}
 use lib.ListN.{length}
-use Rattle.rules.specs.declared.answer.Verdict.{Verdict}
-use Rattle.rules.specs.declared.answer.Verdict.TheVariants.{Accepted, Refused}
+use Rattle.rules.specs.Verdicts.{Verdict}
+use Rattle.rules.specs.Verdicts.{Accepted, Refused}
 use Rattle.rules.specs.Verdicts.{◌or_else◌, refuse_if}
 use Rattle.rules.specs.Personality.{verdict_of}
 use Rattle.rules.specs.Site.{times_in, site_of}
@@ -52,8 +53,8 @@ module _ (b : List ℕ) (s : TimedState) (proper : ProperTimed s) where
 
   handed-back : (v : Verdict) (new : TimedState) → handed_back v (timed_encoded new) (timed_encoded s) ≡ timed_encoded (handed_back v new s)
   unfolding handed_back
-  handed-back Accepted new = refl
-  handed-back (Refused number place) new = refl
+  handed-back (Ok _) new = refl
+  handed-back (Err r) new = refl
 
   same_next : (inputs room : ℕ) → state_after b (timed_encoded s) inputs room ≡ timed_encoded (by_rules.next b s inputs room)
   unfolding state_after step_checks stepped_in is_state_of by_rules checks_by
@@ -88,15 +89,15 @@ module _ (b : List ℕ) (known : verdict_of b ≡ Accepted) where
         timed_verdict b s inputs room ≡ v →
         Sure b (handed_back v (timed_stepped (site_of b) s inputs) s)
     unfolding checks_by handed_back StepKeepsValid TimedStepIsProper
-    step-sure inputs room Accepted e =
+    step-sure inputs room (Ok _) e =
         let wired = (checks-told b inputs room (timed_valid (site_of b) s) e).1 in
         (step-keeps-valid b known s sure.0 inputs wired, timed-step-is-proper b known s sure.0 sure.1 inputs wired)
-    step-sure inputs room (Refused number place) e = sure
+    step-sure inputs room (Err r) e = sure
 
     retime-sure : (new : List ℕ) (v : Verdict) → retime_verdict b s new ≡ v → Sure b (handed_back v (retimed s (times_in new)) s)
     unfolding handed_back RetimeKeepsValid RetimeIsProper
-    retime-sure new Accepted e = (retime-keeps-valid b known s sure.0 new e, retime-is-proper b known s sure.0 sure.1 new e)
-    retime-sure new (Refused number place) e = sure
+    retime-sure new (Ok _) e = (retime-keeps-valid b known s sure.0 new e, retime-is-proper b known s sure.0 sure.1 new e)
+    retime-sure new (Err r) e = sure
 
   -- the bytes are those of such a state
   abbrev Holding : List ℕ → TimedState → Type 0

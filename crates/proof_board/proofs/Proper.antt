@@ -8,12 +8,10 @@ use native.Mathlib.Omega.{arith}
 use borrow.Author.Tests.{ltb-true}
 use lib.Dec.{ltb, eqb}
 use lib.ListN.{length}
-use Rattle.rules.specs.declared.answer.Verdict.TheVariants.{Accepted}
+use Rattle.rules.specs.Verdicts.{Accepted}
 use Rattle.rules.specs.declared.site.Site.{Site}
-use Rattle.rules.specs.declared.state.Held.{Held}
-use Rattle.rules.specs.declared.state.Held.TheVariants.{Nothing, Phase}
 use Rattle.rules.specs.declared.state.KeptState.{KeptState}
-use Rattle.std.specs.Prelude.{if◌then◌else◌}
+use Rattle.std.specs.Prelude.{if◌then◌else◌, Option, Some, None}
 use Rattle.rules.specs.Verdicts.{◌or_else◌, refuse_if}
 use Rattle.rules.specs.Personality.{verdict_of}
 use Rattle.rules.specs.Site.{times_in, site_of}
@@ -46,19 +44,19 @@ use Rattle.proof_board.specs.ProperStates.{FreshTimedIsProper, TimedStepIsProper
 -- ── A state without its times ──
 
 target_below :
-    (count phase : ℕ) (leaving : Bool) (target : Held) →
+    (count phase : ℕ) (leaving : Bool) (target : Option ℕ) →
     target_valid count phase leaving target ≡ true →
     1 ≤ count →
     phase_held target < count
 unfolding target_valid phase_held
-target_below count phase leaving Nothing h some = some
-target_below count phase leaving (Phase t) h some =
+target_below count phase leaving None h some = some
+target_below count phase leaving (Some t) h some =
     ltb-true t count (and_right leaving (ltb t count) (and_left (leaving && ltb t count) (not (eqb t phase)) h))
 
-came-below : (count : ℕ) (previous : Held) → previous_valid count previous ≡ true → 1 ≤ count → phase_held previous < count
+came-below : (count : ℕ) (previous : Option ℕ) → previous_valid count previous ≡ true → 1 ≤ count → phase_held previous < count
 unfolding previous_valid phase_held
-came-below count Nothing h some = some
-came-below count (Phase q) h some = ltb-true q count h
+came-below count None h some = some
+came-below count (Some q) h some = ltb-true q count h
 
 -- a valid state fits, if its sets are bytes and its row of movements has its length
 kept-fits :

@@ -1,10 +1,10 @@
 -- Demand 3 of the library that a buyer links: the same demand, said of the numbers that its calls answer and of the bytes that they leave in the
 -- caller's buffers. The calls are step and retiming calls, in any order.
 use Rattle.std.specs.Prelude.{ℕ, ◌/◌, ◌%◌, List, ◌≡◌, eqb, length, if◌then◌else◌}
-use Rattle.rules.specs.declared.answer.Outcome.{Outcome}
-use Rattle.rules.specs.declared.answer.Outcome.TheVariants.{Stepped, StepRefused}
-use Rattle.rules.specs.declared.answer.Verdict.{Verdict}
-use Rattle.rules.specs.declared.answer.Verdict.TheVariants.{Accepted, Refused}
+use Rattle.rules.specs.Verdicts.{Outcome}
+use Rattle.rules.specs.Verdicts.{Stepped, StepRefused}
+use Rattle.rules.specs.Verdicts.{Verdict}
+use Rattle.rules.specs.Verdicts.{Accepted, Refused}
 use Rattle.rules.specs.Personality.{verdict_of}
 use Rattle.rules.specs.Runs.{Controller, by_rules, Call, Taken, taken_from, OfEveryRun}
 use Rattle.rules.specs.DemandThree.{DemandThreeOf}

@@ -1,6 +1,6 @@
 -- The states of a run fit the types of the machine, and so the bytes of a state.
 use Rattle.std.specs.Prelude.{ℕ, true, false, List, ◌≡◌}
-use Rattle.rules.specs.declared.answer.Verdict.TheVariants.{Accepted}
+use Rattle.rules.specs.Verdicts.{Accepted}
 use Rattle.rules.specs.Personality.{verdict_of}
 use Rattle.rules.specs.Site.{times_in, site_of}
 use Rattle.rules.specs.Timed.{TimedState, fresh_timed, timed_valid, timed_stepped}

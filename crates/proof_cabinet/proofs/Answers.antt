@@ -1,4 +1,5 @@
 -- Every refusal has a written number and place; and stepping and new times answer the first refusal in the order of their checks.
+use Rattle.std.specs.Prelude.{Ok, Err}
 use Prim.Native.Nat.{ℕ, ◌+◌, ◌*◌, ◌%◌, ◌/◌, ◌<◌}
 use mathlib.Core.Bool.{Bool, true, false, not, ◌||◌}
 use mathlib.Core.List.{List}
@@ -8,8 +9,8 @@ use native.Mathlib.Omega.{arith}
 use borrow.Author.Tests.{eqb-true, ltb-false, lt-ltb, le-ltb}
 use lib.Dec.{ltb, eqb}
 use lib.ListN.{length, take, drop, length-take, length-drop}
-use Rattle.rules.specs.declared.answer.Verdict.{Verdict}
-use Rattle.rules.specs.declared.answer.Verdict.TheVariants.{Accepted, Refused}
+use Rattle.rules.specs.Verdicts.{Verdict}
+use Rattle.rules.specs.Verdicts.{Accepted, Refused}
 use Rattle.rules.specs.Verdicts.{◌or_else◌, refuse_if}
 use Rattle.rules.specs.Personality.{verdict_of}
 use Rattle.rules.specs.Site.{site_of}
@@ -51,13 +52,13 @@ module _ (Allowed : ℕ → ℕ → Type 0) (fits : (n p : ℕ) → Allowed n p 
 
   verdict-told : (v : Verdict) → Refusals Allowed v → ToldAnswer Allowed (packed_verdict v)
   unfolding packed_verdict packed
-  verdict-told Accepted told refused = absurd (refused (omega arith))
-  verdict-told (Refused n p) told refused = packed-told n p (told n p refl) refused
+  verdict-told (Ok _) told refused = absurd (refused (omega arith))
+  verdict-told (Err r) told refused = packed-told r.number r.place (told r.number r.place refl) refused
 
   outcome-told : (v : Verdict) (wait : ℕ) → Refusals Allowed v → ToldAnswer Allowed (packed_outcome (bound_for v wait))
   unfolding bound_for packed_outcome packed
-  outcome-told Accepted wait told = λ refused. absurd (refused (omega arith))
-  outcome-told (Refused n p) wait told = packed-told n p (told n p refl)
+  outcome-told (Ok _) wait told = λ refused. absurd (refused (omega arith))
+  outcome-told (Err r) wait told = packed-told r.number r.place (told r.number r.place refl)
 
 -- ── The calls of the cabinet ──
 
@@ -118,8 +119,8 @@ returned-told :
     ToldAnswer (CabinetWritten b) done.answer →
     ToldAnswer (CabinetWritten b) (returned_for v done row out).answer
 unfolding returned_for
-returned-told b Accepted done row out told own = own
-returned-told b (Refused n p) done row out told own = verdict-told (CabinetWritten b) (cabinet-fits b) (Refused n p) told
+returned-told b (Ok _) done row out told own = own
+returned-told b (Err r) done row out told own = verdict-told (CabinetWritten b) (cabinet-fits b) (Refused r.number r.place) told
 
 pub answer-is-written : AnswerIsWritten
 unfolding AnswerIsWritten doing placing stepping stepped taking_out personality_named
@@ -197,8 +198,8 @@ returned-answer :
     (v ≡ Accepted → done.answer ≡ packed_outcome (bound_for w wait)) →
     (returned_for v done row out).answer ≡ packed_outcome (bound_for (v or_else w) wait)
 unfolding returned_for ◌or_else◌ bound_for packed_verdict packed_outcome
-returned-answer Accepted w wait done row out h = h refl
-returned-answer (Refused number at) w wait done row out h = refl
+returned-answer (Ok _) w wait done row out h = h refl
+returned-answer (Err r) w wait done row out h = refl
 
 pub stepping-answers : SteppingAnswers
 unfolding SteppingAnswers stepping_verdict stepping stepped stepped_in

@@ -1,4 +1,5 @@
 -- A placed site keeps its record, and shares no output with another record whose personality would be accepted.
+use Rattle.std.specs.Prelude.{Ok, Err}
 use Prim.Native.Nat.{ℕ, ◌+◌, ◌≤◌, ◌<◌}
 use mathlib.Core.Bool.{Bool, true, false, not, ◌&&◌, true≢false}
 use mathlib.Core.List.{List, [], ◌∷◌}
@@ -9,8 +10,8 @@ use borrow.Author.Tests.{ltb-false, ne_eqb}
 use lib.Dec.{ltb, eqb}
 use lib.ListN.{length, get_or, set, length-set, get_or-eq_default}
 use lib.Seq.{get_or-set_same, get_or-set_other}
-use Rattle.rules.specs.declared.answer.Verdict.{Verdict}
-use Rattle.rules.specs.declared.answer.Verdict.TheVariants.{Accepted, Refused}
+use Rattle.rules.specs.Verdicts.{Verdict}
+use Rattle.rules.specs.Verdicts.{Accepted, Refused}
 use Rattle.laws.proofs.Booleans.{decided, and-false-rest}
 use Rattle.laws.proofs.Indices.{below-or-past, same-or-apart}
 use Rattle.laws.proofs.Folds.{any_false}
@@ -97,8 +98,8 @@ module _ (k first count : ℕ) where
       (v ≡ Accepted → Apart k first count done.row) →
       Apart k first count (returned_for v done row out).row
   unfolding returned_for
-  apart-for Accepted done row out apart h = h refl
-  apart-for (Refused number at) done row out apart h = apart
+  apart-for (Ok _) done row out apart h = h refl
+  apart-for (Err r) done row out apart h = apart
 
 -- ── One call in a row in which the site is placed ──
 

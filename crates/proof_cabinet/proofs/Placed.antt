@@ -9,10 +9,10 @@ use borrow.Author.Tests.{eqb-true, eqb-false, lt-ltb, le-ltb}
 use lib.Dec.{eqb}
 use lib.ListN.{length, set, replicate, length-set}
 use lib.Seq.{get_or-set_same, take_at}
-use Rattle.rules.specs.declared.answer.Verdict.{Verdict}
-use Rattle.rules.specs.declared.answer.Verdict.TheVariants.{Accepted, Refused}
+use Rattle.rules.specs.Verdicts.{Verdict}
+use Rattle.rules.specs.Verdicts.{Accepted, Refused}
 use Rattle.laws.specs.Bytes.{byte_at, two_at}
-use Rattle.std.specs.Prelude.{if◌then◌else◌}
+use Rattle.std.specs.Prelude.{if◌then◌else◌, Ok, Err}
 use Rattle.rules.specs.Verdicts.{◌or_else◌, refuse_if}
 use Rattle.rules.specs.Personality.{verdict_of}
 use Rattle.rules.specs.Laws.{greatest_length}
@@ -171,8 +171,8 @@ module _ (b : List ℕ) (k first : ℕ) where
         (done : Returned) →
         (returned_for v done row out).row ≡ row
     unfolding returned_for
-    place-refused c out g Accepted e done = absurd (true≢false (sym (placing-free row out c k g e) ∙ not_free))
-    place-refused c out g (Refused number at) e done = refl
+    place-refused c out g (Ok _) e done = absurd (true≢false (sym (placing-free row out c k g e) ∙ not_free))
+    place-refused c out g (Err r) e done = refl
 
     -- taking out is refused, since it is not accepted
     take-refused :
@@ -181,8 +181,8 @@ module _ (b : List ℕ) (k first : ℕ) where
         ((returned_for v done row out).answer ≡ 0 → ⊥) →
         (returned_for v done row out).row ≡ row
     unfolding returned_for
-    take-refused out Accepted done e stays = absurd (stays e)
-    take-refused out (Refused number at) done e stays = refl
+    take-refused out (Ok _) done e stays = absurd (stays e)
+    take-refused out (Err r) done e stays = refl
 
     place-for : (c out : List ℕ) (j g : ℕ) (t : Bool) → eqb j k ≡ t → Placed (placing row out c j g).row s
     unfolding doing placing record_named

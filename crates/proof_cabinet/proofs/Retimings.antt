@@ -1,11 +1,12 @@
 -- New times for a record alter its state and nothing else. Refused, they alter nothing.
+use Rattle.std.specs.Prelude.{Ok, Err}
 use Prim.Native.Nat.{ℕ, ◌%◌}
 use mathlib.Core.List.{List}
 use mathlib.Core.Path.{◌≡◌, refl, ap, ◌∙◌}
 use lib.ListN.{length, set, length-set}
 use lib.Seq.{get_or-set_other, set-get_or}
-use Rattle.rules.specs.declared.answer.Verdict.{Verdict}
-use Rattle.rules.specs.declared.answer.Verdict.TheVariants.{Accepted, Refused}
+use Rattle.rules.specs.Verdicts.{Verdict}
+use Rattle.rules.specs.Verdicts.{Accepted, Refused}
 use Rattle.rules.specs.Site.{times_in}
 use Rattle.rules.specs.Call.{handed_back}
 use Rattle.rules.specs.TimedCall.{retimed}
@@ -24,8 +25,8 @@ module _ (b old new : List ℕ) where
       length old ≡ timed_bytes →
       length (handed_back v (timed_encoded (retimed (timed_decoded old) (times_in new))) old) ≡ timed_bytes
   unfolding handed_back
-  length-for Accepted e = encoded-has-336 (retimed (timed_decoded old) (times_in new))
-  length-for (Refused number place) e = e
+  length-for (Ok _) e = encoded-has-336 (retimed (timed_decoded old) (times_in new))
+  length-for (Err r) e = e
 
   pub retimed-length : length old ≡ timed_bytes → length (retime_after b old new) ≡ timed_bytes
   unfolding retime_after
@@ -33,8 +34,8 @@ module _ (b old new : List ℕ) where
 
   left-for : (v : Verdict) (next : List ℕ) → (packed_verdict v % 256 ≡ 0 → ⊥) → handed_back v next old ≡ old
   unfolding handed_back packed_verdict packed
-  left-for Accepted next refused = absurd (refused refl)
-  left-for (Refused number place) next refused = refl
+  left-for (Ok _) next refused = absurd (refused refl)
+  left-for (Err r) next refused = refl
 
   -- a refused call leaves them
   retimed-left : (retime_answer b old new % 256 ≡ 0 → ⊥) → retime_after b old new ≡ old

@@ -1,4 +1,5 @@
 -- From an accepted placing to the taking out, the step and retiming calls on a record are a run of such calls alone.
+use Rattle.std.specs.Prelude.{Ok, Err}
 use Prim.Native.Nat.{ℕ, ◌≤◌}
 use mathlib.Core.Bool.{not, ◌&&◌}
 use mathlib.Core.List.{List, [], ◌∷◌}
@@ -7,8 +8,8 @@ use mathlib.Core.Path.{◌≡◌, refl, sym, subst, ap, ◌∙◌}
 use native.Mathlib.Omega.{arith}
 use lib.ListN.{length, set, replicate, length-set, length-replicate}
 use lib.Seq.{get_or-set_same}
-use Rattle.rules.specs.declared.answer.Verdict.{Verdict}
-use Rattle.rules.specs.declared.answer.Verdict.TheVariants.{Accepted, Refused}
+use Rattle.rules.specs.Verdicts.{Verdict}
+use Rattle.rules.specs.Verdicts.{Accepted, Refused}
 use Rattle.rules.specs.Verdicts.{refuse_if}
 use Rattle.rules.specs.Personality.{verdict_of}
 use Rattle.rules.specs.Site.{site_of}
@@ -55,8 +56,8 @@ accepted-for :
     (returned_for v done row out).answer ≡ 0 →
     v ≡ Accepted
 unfolding returned_for packed_verdict packed
-accepted-for Accepted done row out some e = refl
-accepted-for (Refused n p) done row out some e = absurd (omega (arith, e, some n p refl))
+accepted-for (Ok _) done row out some e = refl
+accepted-for (Err r) done row out some e = absurd (omega (arith, e, some r.number r.place refl))
 
 pub placing-accepted :
     (row : List Record) (out b : List ℕ) (k first : ℕ) →

@@ -1,4 +1,5 @@
 -- Records keep the lengths of their arrays: two bytes of length, room for the longest personality, and the bytes of a state.
+use Rattle.std.specs.Prelude.{Ok, Err}
 use Prim.Native.Nat.{ℕ, ◌-◌, ◌≤◌, ◌<◌}
 use mathlib.Core.List.{List}
 use mathlib.Core.Logic.{⊎_elim}
@@ -6,8 +7,8 @@ use mathlib.Core.Path.{◌≡◌, refl, sym, subst, ap, ◌∙◌}
 use native.Mathlib.Omega.{arith}
 use lib.ListN.{length, get_or, set, replicate, length-append, length-set, length-replicate, get_or-eq_default}
 use lib.Seq.{get_or-set_same, get_or-set_other}
-use Rattle.rules.specs.declared.answer.Verdict.{Verdict}
-use Rattle.rules.specs.declared.answer.Verdict.TheVariants.{Accepted, Refused}
+use Rattle.rules.specs.Verdicts.{Verdict}
+use Rattle.rules.specs.Verdicts.{Accepted, Refused}
 use Rattle.laws.proofs.Indices.{below-or-past, same-or-apart}
 use Rattle.rules.specs.Personality.{verdict_of}
 use Rattle.rules.specs.Site.{site_of}
@@ -30,8 +31,8 @@ use Rattle.proof_cabinet.proofs.Retimings.{retimed-length}
 
 after-for : (v : Verdict) (next : TimedState) (old : List ℕ) → length old ≡ timed_bytes → length (handed_back v (timed_encoded next) old) ≡ timed_bytes
 unfolding handed_back
-after-for Accepted next old e = encoded-has-336 next
-after-for (Refused number place) next old e = e
+after-for (Ok _) next old e = encoded-has-336 next
+after-for (Err r) next old e = e
 
 after-length : (b old : List ℕ) (inputs room : ℕ) → length old ≡ timed_bytes → length (state_after b old inputs room) ≡ timed_bytes
 unfolding state_after
@@ -90,8 +91,8 @@ shape-for :
     (v ≡ Accepted → (j : ℕ) → Shaped (record_of done.row j)) →
     (j : ℕ) → Shaped (record_of (returned_for v done row out).row j)
 unfolding returned_for
-shape-for Accepted done row out shaped h = h refl
-shape-for (Refused number place) done row out shaped h = shaped
+shape-for (Ok _) done row out shaped h = h refl
+shape-for (Err r) done row out shaped h = shaped
 
 pub shape-stays : ShapeStays
 unfolding ShapeStays operating doing placing stepping stepped taking_out retiming

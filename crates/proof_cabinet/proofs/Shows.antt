@@ -9,12 +9,12 @@ use borrow.Author.Tests.{eq-eqb, eqb-false, le-ltb}
 use lib.Dec.{eqb}
 use lib.ListN.{length, take, drop, replicate, length-take, length-drop, length-replicate}
 use lib.Seq.{get_or-take, get_or-drop, ext_get_or}
-use Rattle.rules.specs.declared.answer.Outcome.{Outcome}
-use Rattle.rules.specs.declared.answer.Outcome.TheVariants.{Stepped, StepRefused}
-use Rattle.rules.specs.declared.answer.Verdict.{Verdict}
-use Rattle.rules.specs.declared.answer.Verdict.TheVariants.{Accepted, Refused}
+use Rattle.rules.specs.Verdicts.{Outcome}
+use Rattle.rules.specs.Verdicts.{Stepped, StepRefused}
+use Rattle.rules.specs.Verdicts.{Verdict}
+use Rattle.rules.specs.Verdicts.{Accepted, Refused}
 use Rattle.laws.specs.Bytes.{byte_at}
-use Rattle.std.specs.Prelude.{if◌then◌else◌}
+use Rattle.std.specs.Prelude.{if◌then◌else◌, Ok, Err}
 use Rattle.rules.specs.Colours.{red}
 use Rattle.rules.specs.Runs.{Taken, if_accepted, accepted_steps}
 use Rattle.rules.proofs.Verdicts.{refused-not-accepted}
@@ -62,8 +62,8 @@ untouched-for :
     SameOutside g m out (returned_for v done row out).outputs →
     outputs_in (returned_for v done row out).outputs f n ≡ outputs_in out f n
 unfolding returned_for
-untouched-for f n g m Accepted done row out apart same = part_same out done.outputs f n g m same (apart refl)
-untouched-for f n g m (Refused number at) done row out apart same = refl
+untouched-for f n g m (Ok _) done row out apart same = part_same out done.outputs f n g m same (apart refl)
+untouched-for f n g m (Err r) done row out apart same = refl
 
 module _ (b : List ℕ) (k first : ℕ) (row : List Record) (s : List ℕ) (placed : Placed b k first row s) (apart : Apart k first (outputs_of b) row) where
   held-clear :
@@ -78,8 +78,8 @@ module _ (b : List ℕ) (k first : ℕ) (row : List Record) (s : List ℕ) (plac
       done.answer ≡ 0 →
       v ≡ Accepted → j ≡ k → ⊥
   unfolding returned_for
-  taken-elsewhere j Accepted done out stays zero e same = stays (eq-eqb j k same) zero
-  taken-elsewhere j (Refused number at) done out stays zero e same = refused-not-accepted e
+  taken-elsewhere j (Ok _) done out stays zero e same = stays (eq-eqb j k same) zero
+  taken-elsewhere j (Err r) done out stays zero e same = refused-not-accepted e
 
   -- an operation that is no step of the record leaves its outputs
   abbrev Beside : List ℕ → OwnCall → List ℕ → Type 0
@@ -170,10 +170,10 @@ module _ (b : List ℕ) (k first : ℕ) where
       -- the record's own step, accepted or refused
       step-shows : (inputs : ℕ) → Did k row out (steps inputs) done → (o : Outcome) → outcome_in done.answer ≡ o → Shows (steps inputs)
       unfolding seen_for accepted_steps if_accepted last_shown
-      step-shows inputs made (Stepped wait) o =
+      step-shows inputs made (Ok wait) o =
           rw o (later (own_outputs (record_of row k) done.outputs) (sym (own-outputs b k first row s placed done.outputs)))
-      step-shows inputs made (StepRefused n p) o =
-          rw o (later none (ap (λ (l : List ℕ). outputs_in l first (outputs_of b)) (left inputs n p made o) ∙ shown))
+      step-shows inputs made (Err r) o =
+          rw o (later none (ap (λ (l : List ℕ). outputs_in l first (outputs_of b)) (left inputs r.number r.place made o) ∙ shown))
 
       one_more : (call : OwnCall) → Did k row out call done → Beside b k first row s placed apart out call done.outputs → Shows call
       unfolding seen_for accepted_steps

@@ -12,15 +12,13 @@ use borrow.Author.Tests.{ne_eqb}
 use Rattle.rules.specs.declared.site.Site.{Site}
 use Rattle.rules.specs.declared.site.Times.{Times}
 use Rattle.rules.specs.declared.state.Demands.{Demands}
-use Rattle.rules.specs.declared.state.Held.{Held}
-use Rattle.rules.specs.declared.state.Held.TheVariants.{Phase}
 use Rattle.rules.specs.declared.state.Interval.{Interval}
 use Rattle.rules.specs.declared.state.Interval.TheVariants.{StartRed, LateStart, MinimumGreen, Running, EarlyCutOff, Yellow, AllRed}
 use Rattle.rules.specs.declared.state.KeptState.{KeptState}
 use Rattle.rules.specs.declared.state.Movement.{Movement}
 use Rattle.rules.specs.declared.state.Position.{Position}
 use Rattle.laws.specs.Bytes.{bit}
-use Rattle.std.specs.Prelude.{if◌then◌else◌}
+use Rattle.std.specs.Prelude.{if◌then◌else◌, Option, Some}
 use Rattle.laws.specs.Folds.{set_of}
 use Rattle.rules.specs.Site.{phase_times, crosses, ring}
 use Rattle.rules.specs.IntervalTable.{is_running, is_held, phase_held}
@@ -46,7 +44,7 @@ not-started true h = never_both h refl
 not-started false h = never_both h refl
 
 followed :
-    (i : Interval) (times : Times) (next : Held) (old : Position) →
+    (i : Interval) (times : Times) (next : Option ℕ) (old : Position) →
     is_running (following i times next old).interval ≡ true →
     (following i times next old).phase ≡ old.phase
 unfolding following starting leaving entering
@@ -59,7 +57,7 @@ followed Yellow times next old h = refl
 followed AllRed times next old h = absurd (not-started (eqb (phase_times times (phase_held old.target)).late 0) h)
 
 same-phase :
-    (ended : Bool) (times : Times) (next : Held) (old : Position) →
+    (ended : Bool) (times : Times) (next : Option ℕ) (old : Position) →
     is_running (position_after ended times next old).interval ≡ true →
     (position_after ended times next old).phase ≡ old.phase
 unfolding position_after staying
@@ -68,7 +66,7 @@ same-phase false times next old h = refl
 
 -- ── The search ──
 
-pub found-passes : (d : ℕ → Bool) (l : List ℕ) → is_held (first_in d l) ≡ true → (t : ℕ) × (first_in d l ≡ Phase t) × (d t ≡ true)
+pub found-passes : (d : ℕ → Bool) (l : List ℕ) → is_held (first_in d l) ≡ true → (t : ℕ) × (first_in d l ≡ Some t) × (d t ≡ true)
 unfolding first_in is_held
 found-passes d [] h = absurd (never_both h refl)
 found-passes d (q ∷ l) h =

@@ -1,4 +1,5 @@
 -- Only non-locking calls are read of the inputs: inputs that agree on them call the same phases.
+use Rattle.std.specs.Prelude.{Option}
 use Prim.Native.Nat.{ℕ}
 use mathlib.Core.Bool.{Bool, true, false, not, ◌&&◌, ◌||◌}
 use mathlib.Core.List.{List, [], ◌∷◌}
@@ -6,7 +7,6 @@ use mathlib.Core.Logic.{⊎_elim}
 use mathlib.Core.Path.{◌≡◌, refl, sym, ap, ◌∙◌}
 use lib.Dec.{eqb}
 use Rattle.rules.specs.declared.site.Site.{Site}
-use Rattle.rules.specs.declared.state.Held.{Held}
 use Rattle.rules.specs.declared.state.KeptState.{KeptState}
 use Rattle.rules.specs.declared.state.State.{State}
 use Rattle.rules.specs.Site.{site_of, detector_of}
@@ -40,7 +40,7 @@ first-same d e (q ∷ l) h = rw (h q, first-same d e l h)
 no-other-same : (site : Site) (s : KeptState) (inputs others : ℕ) → SameCalls site inputs others → no_other site s inputs ≡ no_other site s others
 unfolding no_other next_after
 no-other-same site s inputs others same =
-    ap (λ (next : Held). not (is_held next))
+    ap (λ (next : Option ℕ). not (is_held next))
     (first-same (λ p. is_kept s p || calls site s.core inputs p) (λ p. is_kept s p || calls site s.core others p) _
     (λ q. ap (λ (called : Bool). is_kept s q || called) (same-calls site s.core inputs others same q)))
 

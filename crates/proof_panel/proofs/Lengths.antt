@@ -7,11 +7,11 @@ use native.Mathlib.Omega.{arith}
 use lib.Dec.{ltb}
 use lib.ListN.{length}
 use borrow.Author.Tests.{not-false, le-ltb}
-use Rattle.rules.specs.declared.answer.Verdict.{Verdict}
-use Rattle.rules.specs.declared.answer.Verdict.TheVariants.{Accepted, Refused}
+use Rattle.rules.specs.Verdicts.{Verdict}
+use Rattle.rules.specs.Verdicts.{Accepted, Refused}
 use Rattle.rules.specs.declared.site.Edition.{Edition}
 use Rattle.rules.specs.declared.site.Edition.TheVariants.{One, Two}
-use Rattle.std.specs.Prelude.{if◌then◌else◌}
+use Rattle.std.specs.Prelude.{if◌then◌else◌, Ok, Err}
 use Rattle.rules.specs.Verdicts.{◌or_else◌, refuse_if}
 use Rattle.rules.specs.Limits.{limits, limit_of, phase_settings}
 use Rattle.rules.specs.Personality.{verdict_of}
@@ -98,5 +98,5 @@ unfolding LongestRoomIsEnough why_checks ◌or_else◌
 longest-room-is-enough b state inputs room h = by (length_checks b state inputs) refl
   where
     by : (v : Verdict) → length_checks b state inputs ≡ v → (v or_else refuse_if (ltb room (length (why_line b state inputs))) 14 0) ≡ v
-    by Accepted e = refuse-no 14 0 (le-ltb room (length (why_line b state inputs)) (omega (arith, line-within b state inputs e)))
-    by (Refused number place) e = refl
+    by (Ok _) e = refuse-no 14 0 (le-ltb room (length (why_line b state inputs)) (omega (arith, line-within b state inputs e)))
+    by (Err r) e = refl

@@ -4,9 +4,8 @@ use Prim.Native.Nat.{ℕ}
 use mathlib.Core.Bool.{Bool, true, false, not}
 use mathlib.Core.List.{List}
 use mathlib.Core.Path.{◌≡◌, refl, ap, ◌∙◌}
-use Rattle.rules.specs.declared.answer.Verdict.TheVariants.{Accepted}
-use Rattle.rules.specs.declared.state.Held.{Held}
-use Rattle.std.specs.Prelude.{if◌then◌else◌}
+use Rattle.rules.specs.Verdicts.{Accepted}
+use Rattle.std.specs.Prelude.{if◌then◌else◌, Option}
 use Rattle.rules.specs.Verdicts.{◌or_else◌, refuse_if}
 use Rattle.rules.specs.Personality.{verdict_of}
 use Rattle.rules.specs.Site.{site_of}
@@ -72,7 +71,7 @@ module _ (b : List ℕ) (s : TimedState) (inputs room : ℕ) (passed : timed_ver
   told running =
       let before = if takes_over (site_of b) s then without_counts (kept_of s) else kept_of s in
       told-by-kept (ruling_next (site_of b) s) (ruled_site (site_of b) s) sound before inputs running
-      ∙ ap (λ (next : Held). not (is_held next)) (found-without (takes_over (site_of b) s) ∙ found ∙ found-own)
+      ∙ ap (λ (next : Option ℕ). not (is_held next)) (found-without (takes_over (site_of b) s) ∙ found ∙ found-own)
 
 pub step-is-explained : StepIsExplained
 unfolding StepIsExplained

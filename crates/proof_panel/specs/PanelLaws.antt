@@ -1,7 +1,7 @@
 -- Statements about the panel's line: what it says after a step, what of the inputs it reads, how long it can be, and how its calls refuse. Those
 -- about a line are over the bytes of a personality and a timed state, and those about the calls are over bytes.
 use Rattle.std.specs.Prelude.{ℕ, ◌≤◌, ◌<◌, Bool, true, false, not, ◌||◌, List, ◌⊎◌, ◌≡◌, eqb, length}
-use Rattle.rules.specs.declared.answer.Verdict.TheVariants.{Accepted, Refused}
+use Rattle.rules.specs.Verdicts.{Accepted, Refused}
 use Rattle.rules.specs.declared.site.Site.{Site}
 use Rattle.rules.specs.declared.state.State.{State}
 use Rattle.rules.specs.Personality.{verdict_of}

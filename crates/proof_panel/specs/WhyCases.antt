@@ -1,8 +1,7 @@
 -- Worked lines as one list with one statement: every case holds. Each can be checked by hand with the papers.
-use Rattle.std.specs.Prelude.{ℕ, zero, suc, ◌^◌, List, [], ◌∷◌, ◌++◌, ◌≡◌, replicate}
+use Rattle.std.specs.Prelude.{ℕ, zero, suc, ◌^◌, List, [], ◌∷◌, ◌++◌, ◌≡◌, replicate, None}
 use Prim.Native.String.{String}
-use Rattle.rules.specs.declared.answer.Verdict.TheVariants.{Accepted, Refused}
-use Rattle.rules.specs.declared.state.Held.TheVariants.{Nothing}
+use Rattle.rules.specs.Verdicts.{Accepted, Refused}
 use Rattle.rules.specs.declared.state.Interval.{Interval}
 use Rattle.rules.specs.declared.state.Interval.TheVariants.{MinimumGreen, Running}
 use Rattle.rules.specs.declared.state.KeptState.{KeptState}
@@ -70,7 +69,7 @@ crossed interval gap_count max_count phases movements =
     (record {
       core =
           record {
-            position = at 0 interval 1 Nothing;
+            position = at 0 interval 1 None;
             counts = gap gap_count max max_count;
             demands = locks phases buttons 0;
             movements = movements;
@@ -84,11 +83,11 @@ three = crossed Running 7 1420 0 (walking ∷ past ∷ clearing ∷ idle ∷ idl
 
 -- a phase in running, with a gap count, a maximum count and locks, which are the kept set
 abbrev running : ℕ → ℕ → ℕ → ℕ → KeptState
-running phase gap_count max_count phases = state (at phase Running 1 Nothing) (gap gap_count max max_count) (locks phases buttons 0) idle phases
+running phase gap_count max_count phases = state (at phase Running 1 None) (gap gap_count max max_count) (locks phases buttons 0) idle phases
 
 -- A of the junction at an age, while B has a lock
 abbrev in_a : Interval → ℕ → ℕ → ℕ → KeptState
-in_a interval age gap_count max_count = state (at 0 interval age Nothing) (gap gap_count max max_count) (locks 2 buttons 0) idle 2
+in_a interval age gap_count max_count = state (at 0 interval age None) (gap gap_count max max_count) (locks 2 buttons 0) idle 2
 
 -- the state with the longest line
 abbrev pub longest : TimedState

@@ -8,7 +8,7 @@ use lib.ListN.{length, get_or, drop}
 use native.Mathlib.Omega.{arith}
 use Rattle.laws.specs.Folds.{list_of}
 use Rattle.laws.proofs.Lists.{list_length, list_at}
-use Rattle.rules.specs.declared.answer.Verdict.TheVariants.{Accepted}
+use Rattle.rules.specs.Verdicts.{Accepted}
 use Rattle.rules.specs.Personality.{verdict_of}
 use Rattle.rules.specs.Site.{site_of}
 use Rattle.rules.proofs.Verdicts.{or-first, or_later, refuse-passed}

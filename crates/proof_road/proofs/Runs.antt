@@ -1,10 +1,11 @@
 -- The road's state is that of its list of step calls, and demand 3 holds of every list of calls.
+use Rattle.std.specs.Prelude.{Ok, Err}
 use Prim.Native.Nat.{ℕ, zero, suc}
 use mathlib.Core.List.{List, [], ◌∷◌, map, map-append}
 use mathlib.Core.Path.{◌≡◌, refl, sym, ◌∙◌, ap}
 use lib.ListN.{length}
-use Rattle.rules.specs.declared.answer.Verdict.{Verdict}
-use Rattle.rules.specs.declared.answer.Verdict.TheVariants.{Accepted, Refused}
+use Rattle.rules.specs.Verdicts.{Verdict}
+use Rattle.rules.specs.Verdicts.{Accepted, Refused}
 use Rattle.rules.specs.declared.state.KeptState.{KeptState}
 use Rattle.laws.specs.Folds.{list_of}
 use Rattle.rules.specs.Site.{site_of}
@@ -24,8 +25,8 @@ own-next :
     let next = handed_back v (timed_stepped (site_of b) (with_own_times (site_of b) s) inputs) (with_own_times (site_of b) s) in
     with_own_times (site_of b) (kept_of next) ≡ next
 unfolding handed_back timed_stepped ruling_next takes_over none_waiting
-own-next b s inputs Accepted = refl
-own-next b s inputs (Refused number place) = refl
+own-next b s inputs (Ok _) = refl
+own-next b s inputs (Err r) = refl
 
 state-run : (b streams : List ℕ) (n : ℕ) → state_at b streams n ≡ left_by by_rules b (by_rules.fresh b) (map step_call (list_of (call_at b streams) n))
 unfolding road_after fresh_road road_stepped left_by list_of call_at inputs_at by_rules fresh_timed

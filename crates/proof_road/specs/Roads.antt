@@ -1,7 +1,7 @@
 -- What is promised of the simulated road: its vehicles are counted right, no step call in it is refused, demand 3 holds of it, and every refusal of the call
 -- is a written one.
 use Rattle.std.specs.Prelude.{ℕ, ◌+◌, ◌-◌, ◌*◌, ◌/◌, ◌%◌, ◌≤◌, ◌<◌, Bool, true, false, ◌||◌, List, map, ◌⊎◌, ◌≡◌, eqb, ltb, length, if◌then◌else◌}
-use Rattle.rules.specs.declared.answer.Verdict.TheVariants.{Accepted, Refused}
+use Rattle.rules.specs.Verdicts.{Accepted, Refused}
 use Rattle.laws.specs.Bytes.{two_at}
 use Rattle.laws.specs.Folds.{sum_of, list_of}
 use Rattle.rules.specs.Personality.{verdict_of}

@@ -1,11 +1,12 @@
 -- The answers of sealing and resuming, by one walk over the checks of each. The number of a refusal is not 0, so an answer of 0 is acceptance.
+use Rattle.std.specs.Prelude.{Ok, Err}
 use Prim.Native.Nat.{ℕ, ◌≤◌}
 use mathlib.Core.List.{List}
 use mathlib.Core.Logic.{inl, inr}
 use mathlib.Core.Path.{◌≡◌, refl}
 use native.Mathlib.Omega.{arith}
-use Rattle.rules.specs.declared.answer.Verdict.{Verdict}
-use Rattle.rules.specs.declared.answer.Verdict.TheVariants.{Accepted, Refused}
+use Rattle.rules.specs.Verdicts.{Verdict}
+use Rattle.rules.specs.Verdicts.{Accepted, Refused}
 use Rattle.rules.specs.Personality.{verdict_of}
 use Rattle.rules.specs.Call.{handed_back}
 use Rattle.rules.proofs.Verdicts.{or_later}
@@ -48,8 +49,8 @@ resume-refusal-is-written b sealed old =
 
 answer-accepted : (v : Verdict) → Refusals (λ number place. 1 ≤ number) v → packed_verdict v ≡ 0 → v ≡ Accepted
 unfolding packed_verdict packed
-answer-accepted Accepted named e = refl
-answer-accepted (Refused number place) named e = absurd (omega (arith, named number place refl, e))
+answer-accepted (Ok _) named e = refl
+answer-accepted (Err r) named e = absurd (omega (arith, named r.number r.place refl, e))
 
 -- all checks have passed, those of the record among them
 pub resume-accepted :
@@ -67,8 +68,8 @@ resume-accepted b sealed old e =
 
 leaves : (v : Verdict) (new old : List ℕ) → (packed_verdict v ≡ 0 → ⊥) → handed_back v new old ≡ old
 unfolding packed_verdict packed handed_back
-leaves Accepted new old refused = absurd (refused refl)
-leaves (Refused number place) new old refused = refl
+leaves (Ok _) new old refused = absurd (refused refl)
+leaves (Err r) new old refused = refl
 
 pub refusal-leaves : RefusalLeaves
 unfolding RefusalLeaves seal_answer seal_after resume_answer resume_after

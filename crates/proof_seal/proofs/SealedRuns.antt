@@ -1,12 +1,13 @@
 -- Each call of the library leaves the bytes of a valid state, so every state of a run can be sealed; and a run of two parts goes on from the state
 -- that the first part leaves, which is what is resumed.
+use Rattle.std.specs.Prelude.{Ok, Err}
 use Prim.Native.Nat.{ℕ}
 use mathlib.Core.Bool.{true}
 use mathlib.Core.List.{List, [], ◌∷◌}
 use mathlib.Core.Path.{◌≡◌, refl, subst⁻¹}
 use lib.ListN.{length}
-use Rattle.rules.specs.declared.answer.Verdict.{Verdict}
-use Rattle.rules.specs.declared.answer.Verdict.TheVariants.{Accepted, Refused}
+use Rattle.rules.specs.Verdicts.{Verdict}
+use Rattle.rules.specs.Verdicts.{Accepted, Refused}
 use Rattle.rules.specs.Personality.{verdict_of}
 use Rattle.rules.specs.Site.{times_in, site_of}
 use Rattle.rules.specs.Timed.{TimedState, fresh_timed, timed_valid, timed_stepped}
@@ -79,8 +80,8 @@ module _ (b : List ℕ) (accepted : verdict_of b ≡ Accepted) where
         rw (encoded-is-timed s, decoded-encoded s sure.proper) (by (timed_verdict b s inputs room) refl)
       where
         by : (v : Verdict) → timed_verdict b s inputs room ≡ v → Left b (handed_back v (timed_encoded (timed_stepped (site_of b) s inputs)) (timed_encoded s))
-        by Accepted e = record { state = timed_stepped (site_of b) s inputs; encoded = refl; sure = stepped inputs room e }
-        by (Refused number place) e = unmoved
+        by (Ok _) e = record { state = timed_stepped (site_of b) s inputs; encoded = refl; sure = stepped inputs room e }
+        by (Err r) e = unmoved
 
     retimed-sure : (new : List ℕ) → retime_verdict b s new ≡ Accepted → Sure b (retimed s (times_in new))
     unfolding RetimeKeepsValid RetimeIsProper
@@ -96,8 +97,8 @@ module _ (b : List ℕ) (accepted : verdict_of b ≡ Accepted) where
         rw (encoded-is-timed s, decoded-encoded s sure.proper) (by (retime_verdict b s new) refl)
       where
         by : (v : Verdict) → retime_verdict b s new ≡ v → Left b (handed_back v (timed_encoded (retimed s (times_in new))) (timed_encoded s))
-        by Accepted e = record { state = retimed s (times_in new); encoded = refl; sure = retimed-sure new e }
-        by (Refused number place) e = unmoved
+        by (Ok _) e = record { state = retimed s (times_in new); encoded = refl; sure = retimed-sure new e }
+        by (Err r) e = unmoved
 
   run-left : (buffer : List ℕ) (calls : List Call) (bytes : List ℕ) → Left b bytes → Left b (left_by (board buffer) b bytes calls)
   unfolding left_by board

@@ -1,7 +1,7 @@
 -- The answers of sealing and resuming: every refusal has a written number and place, and a refused call writes nothing.
 use Rattle.std.specs.Prelude.{ℕ, Bool, true, ◌&&◌, ◌||◌, List, ◌⊎◌, ◌≡◌, eqb, leb}
-use Rattle.rules.specs.declared.answer.Verdict.{Verdict}
-use Rattle.rules.specs.declared.answer.Verdict.TheVariants.{Refused}
+use Rattle.rules.specs.Verdicts.{Verdict}
+use Rattle.rules.specs.Verdicts.{Refused}
 use Rattle.rules.specs.Laws.{reading_number, PlaceIn}
 use Rattle.board_seal.specs.SealCall.{seal_verdict, seal_answer, seal_after, resume_verdict, resume_answer, resume_after}
 

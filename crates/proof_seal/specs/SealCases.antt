@@ -1,7 +1,7 @@
 -- Worked cases: the junction of two phases, its fresh state and the sealed record of this state, and what other records are refused with.
 use Rattle.std.specs.Prelude.{ℕ, List, [], ◌∷◌, ◌++◌, ◌≡◌, length, take, replicate, set}
-use Rattle.rules.specs.declared.answer.Verdict.{Verdict}
-use Rattle.rules.specs.declared.answer.Verdict.TheVariants.{Accepted, Refused}
+use Rattle.rules.specs.Verdicts.{Verdict}
+use Rattle.rules.specs.Verdicts.{Accepted, Refused}
 use Rattle.rules.specs.Site.{site_of}
 use Rattle.rules.specs.Timed.{fresh_timed}
 use Rattle.rules.specs.Kept.{fresh_kept}

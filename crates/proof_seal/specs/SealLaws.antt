@@ -1,7 +1,7 @@
 -- What sealing and resuming promise, over the bytes that C and Rust hold. A saved state is resumed as it was, or refused: for another version of
 -- the interface, for damage, or for another personality.
 use Rattle.std.specs.Prelude.{ℕ, ◌<◌, true, List, ◌≡◌, eqb, length, set, if◌then◌else◌}
-use Rattle.rules.specs.declared.answer.Verdict.TheVariants.{Accepted}
+use Rattle.rules.specs.Verdicts.{Accepted}
 use Rattle.laws.specs.Bytes.{byte_at}
 use Rattle.rules.specs.Personality.{verdict_of}
 use Rattle.base_crc.specs.CrcLaws.{SameAround, SameBytesAround}

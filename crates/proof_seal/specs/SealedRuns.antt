@@ -1,7 +1,7 @@
 -- Runs of the library that are sealed and resumed in the middle. The library is the controller of proof_board: a run is a list of step and retiming
 -- calls from the fresh state of an accepted personality, and its states are the caller's bytes.
 use Rattle.std.specs.Prelude.{ℕ, List, ◌++◌, ◌≡◌, length}
-use Rattle.rules.specs.declared.answer.Verdict.TheVariants.{Accepted}
+use Rattle.rules.specs.Verdicts.{Accepted}
 use Rattle.rules.specs.Personality.{verdict_of}
 use Rattle.rules.specs.Runs.{Controller, Call, taken_from, left_by}
 use Rattle.state_timed.specs.TimedLayout.{timed_bytes}

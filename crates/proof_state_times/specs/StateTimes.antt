@@ -1,7 +1,7 @@
 -- The times in the bytes of a state, by request twelve: the state keeps the ruling and the waiting times, and is valid only if the personality would be
 -- accepted with either.
 use Rattle.std.specs.Prelude.{ℕ, true, false, List, ◌≡◌}
-use Rattle.rules.specs.declared.answer.Verdict.TheVariants.{Accepted}
+use Rattle.rules.specs.Verdicts.{Accepted}
 use Rattle.rules.specs.declared.site.Times.{Times}
 use Rattle.rules.specs.Personality.{verdict_of}
 use Rattle.rules.specs.Site.{site_of}

@@ -9,12 +9,12 @@ use native.Mathlib.Omega.{arith}
 use lib.Dec.{eqb, ltb}
 use lib.ListN.{length, take, drop}
 use borrow.Author.Tests.{lt-ltb, le-ltb}
-use Rattle.std.specs.Prelude.{if◌then◌else◌}
+use Rattle.std.specs.Prelude.{if◌then◌else◌, Ok, Err}
 use Rattle.laws.specs.Bytes.{eight_at}
 use Rattle.laws.proofs.Booleans.{decided, never_both}
-use Rattle.rules.specs.declared.answer.Outcome.TheVariants.{Stepped, StepRefused}
-use Rattle.rules.specs.declared.answer.Verdict.{Verdict}
-use Rattle.rules.specs.declared.answer.Verdict.TheVariants.{Accepted, Refused}
+use Rattle.rules.specs.Verdicts.{Stepped, StepRefused}
+use Rattle.rules.specs.Verdicts.{Verdict}
+use Rattle.rules.specs.Verdicts.{Accepted, Refused}
 use Rattle.rules.specs.Personality.{group_count, verdict_of}
 use Rattle.rules.specs.Runs.{by_rules, step_of}
 use Rattle.rules.specs.Trace.{Part, goes_on, refusal, ◌and_then◌, cut, verdict_part, personality_part, record_part, call_in, outcome_part, step_part, records_from, most_steps, trace_of}
@@ -110,8 +110,8 @@ module _ (b buffer : List ℕ) where
 
 goes-accepted : (v : Verdict) → (verdict_part v).more ≡ true → v ≡ Accepted
 unfolding verdict_part
-goes-accepted Accepted e = refl
-goes-accepted (Refused number place) e = absurd (never_both e refl)
+goes-accepted (Ok _) e = refl
+goes-accepted (Err r) e = absurd (never_both e refl)
 
 personality-accepted : (n : ℕ) (b : List ℕ) → (personality_part n b).more ≡ true → (ltb (length b) n ≡ false) × (verdict_of b ≡ Accepted)
 unfolding personality_part cut

@@ -4,160 +4,104 @@
 // program. A call that the cabinet refuses does not. A read or a write that fails ends the program with its error.
 #![tactic(auto)]
 
-ghost use Rattle.std.specs.Prelude.{◌≡◌};
-ghost use Rattle.cabinet_records.specs.Cabinet.{placing, stepping, taking_out};
-
 use cabinet_records::Record;
 use run_input::next_bytes;
 use std::io;
 use std::io::Read;
+use willowera::cabinet::{
+    willowera_cabinet_place, willowera_cabinet_step, willowera_cabinet_take_out,
+};
 
-// Red, yellow, green, flashing red and dark.
-const LETTERS: [u8; 5] = [82, 89, 71, 70, 68];
-
-// What a call on the row returns, beside the outputs.
-#[derive(Clone, Copy)]
-struct Called {
-    answer: u64,
-    row: [Record; 4],
-}
-
-// The result of a turn: whether the program goes on, and with which row.
-#[derive(Clone, Copy)]
-struct Turn {
-    goes: bool,
-    row: [Record; 4],
-}
-
-// The three calls, on a row that is lent to them.
-fn placed(
-    row: [Record; 4],
-    k: usize,
-    personality: &[u8],
-    first: usize,
-    outputs: &mut [u8],
-) -> Called
-    ensures { record { answer = result.answer; row = result.row; outputs = outputs.new }
-        ≡ placing row outputs.old personality.now k first }
-{
-    let mut lent = row;
-    let answer = willowera::cabinet::willowera_cabinet_place(
-        &mut lent,
-        k,
-        personality,
-        first,
-        outputs,
-    );
-    Called {
-        answer: answer,
-        row: lent,
-    }
-}
-
-fn stepped(row: [Record; 4], k: usize, inputs: u64, outputs: &mut [u8]) -> Called
-    ensures { record { answer = result.answer; row = result.row; outputs = outputs.new }
-        ≡ stepping row outputs.old k inputs }
-{
-    let mut lent = row;
-    let answer = willowera::cabinet::willowera_cabinet_step(&mut lent, k, inputs, outputs);
-    Called {
-        answer: answer,
-        row: lent,
-    }
-}
-
-fn taken_out(row: [Record; 4], k: usize, outputs: &mut [u8]) -> Called
-    ensures { record { answer = result.answer; row = result.row; outputs = outputs.new }
-        ≡ taking_out row outputs.old k }
-{
-    let mut lent = row;
-    let answer = willowera::cabinet::willowera_cabinet_take_out(&mut lent, k, outputs);
-    Called {
-        answer: answer,
-        row: lent,
-    }
-}
+// The letters of red, yellow, green, flashing red and dark.
+const LETTERS: &[u8; 5] = b"RYGFD";
 
 // A colour's letter, or a question mark.
 fn letter(code: u8) -> u8 {
-    let at = usize::from(code);
-    if at < LETTERS.len() { LETTERS[at] } else { 63 }
+    LETTERS.get(usize::from(code)).copied().unwrap_or(b'?')
 }
 
 // The end of a line: a letter for each output.
 fn show_outputs(rt: &impl Print, outputs: &[u8]) -> io::Result<()> {
-    let mut text = [10u8; 33];
-    for i in 0..outputs.len().min(32) {
-        text[i] = letter(outputs[i]);
+    let mut text = [b'\n'; 33];
+    for (place, &code) in text[..32].iter_mut().zip(outputs) {
+        *place = letter(code);
     }
     rt.write_all(b" ")?;
     rt.write_all(&text)
 }
 
-// What follows a call's record: the number and place of its refusal, or the word for what is done, and the wait if there is one.
-fn show_answer(rt: &impl Print, answer: u64, done: &str, waits: bool) -> io::Result<()> {
-    let number = answer % 256;
-    let rest = answer / 256;
-    if number != 0 {
-        return print!(rt; "refused {number} {rest}");
+// What a call returned beside the row and the outputs: what is above the lowest byte, which is the wait of a step and 0 of the others. Or its
+// refusal, the number and the place.
+fn outcome(answer: u64) -> Result<u64, (u64, u64)> {
+    match answer % 256 {
+        0 => Ok(answer / 256),
+        number => Err((number, answer / 256)),
     }
-    if waits {
-        return print!(rt; "{done}{rest}");
-    }
-    print!(rt; "{done}")
 }
 
-fn show_call(rt: &impl Print, word: &str, k: u8) -> io::Result<()> {
-    print!(rt; "{word}{k} ")
+fn show_refusal(rt: &impl Print, (number, place): (u64, u64)) -> io::Result<()> {
+    print!(rt; "refused {number} {place}")
 }
 
-// The turn of a call that is cut or of another kind.
-fn cut(rt: &impl Print, row: [Record; 4]) -> io::Result<Turn> {
+// What follows a placing or a taking out.
+fn show_done(rt: &impl Print, answer: u64) -> io::Result<()> {
+    match outcome(answer) {
+        Ok(_) => print!(rt; "done"),
+        Err(refusal) => show_refusal(rt, refusal),
+    }
+}
+
+// What follows a step.
+fn show_wait(rt: &impl Print, answer: u64) -> io::Result<()> {
+    match outcome(answer) {
+        Ok(wait) => print!(rt; "wait {wait}"),
+        Err(refusal) => show_refusal(rt, refusal),
+    }
+}
+
+// A call that is cut or of another kind. Like the turns below it answers whether the program goes on.
+fn cut(rt: &impl Print) -> io::Result<bool> {
     println!(rt; "refused 16 0")?;
-    Ok(Turn { goes: false, row })
+    Ok(false)
 }
 
 // Placing the personality, which should have `size` bytes.
 fn read_and_place<R: Read>(
     rt: &(impl Print + AllocGlobal),
     input: &mut R,
-    row: [Record; 4],
+    row: &mut [Record; 4],
     k: u8,
     first: u8,
     size: u16,
     outputs: &mut [u8],
-) -> io::Result<Turn> {
+) -> io::Result<bool> {
     let personality = next_bytes(rt.alloc(), input, u64::from(size))?;
     if personality.len() < usize::from(size) {
-        return cut(rt, row);
+        return cut(rt);
     }
-    let called = placed(
+    let answer = willowera_cabinet_place(
         row,
         usize::from(k),
         &personality,
         usize::from(first),
         outputs,
     );
-    show_call(rt, "place ", k)?;
-    show_answer(rt, called.answer, "done", false)?;
+    print!(rt; "place {k} ")?;
+    show_done(rt, answer)?;
     show_outputs(rt, outputs)?;
-    let after = called.row;
-    Ok(Turn {
-        goes: true,
-        row: after,
-    })
+    Ok(true)
 }
 
 fn place_turn<R: Read>(
     rt: &(impl Print + AllocGlobal),
     input: &mut R,
-    row: [Record; 4],
+    row: &mut [Record; 4],
     k: u8,
     outputs: &mut [u8],
-) -> io::Result<Turn> {
+) -> io::Result<bool> {
     let head = next_bytes(rt.alloc(), input, 3)?;
     if head.len() < 3 {
-        return cut(rt, row);
+        return cut(rt);
     }
     let first = base_bytes::byte_at(&head, 0);
     let size = base_bytes::two_at(&head, 1);
@@ -167,62 +111,55 @@ fn place_turn<R: Read>(
 fn step_turn<R: Read>(
     rt: &(impl Print + AllocGlobal),
     input: &mut R,
-    row: [Record; 4],
+    row: &mut [Record; 4],
     k: u8,
     outputs: &mut [u8],
-) -> io::Result<Turn> {
+) -> io::Result<bool> {
     let bytes = next_bytes(rt.alloc(), input, 8)?;
     if bytes.len() < 8 {
-        return cut(rt, row);
+        return cut(rt);
     }
-    let called = stepped(
-        row,
-        usize::from(k),
-        base_bytes::eight_at(&bytes, 0),
-        outputs,
-    );
-    show_call(rt, "step ", k)?;
-    show_answer(rt, called.answer, "wait ", true)?;
+    let inputs = base_bytes::eight_at(&bytes, 0);
+    let answer = willowera_cabinet_step(row, usize::from(k), inputs, outputs);
+    print!(rt; "step {k} ")?;
+    show_wait(rt, answer)?;
     show_outputs(rt, outputs)?;
-    let after = called.row;
-    Ok(Turn {
-        goes: true,
-        row: after,
-    })
+    Ok(true)
 }
 
-fn take_out_turn(rt: &impl Print, row: [Record; 4], k: u8, outputs: &mut [u8]) -> io::Result<Turn> {
-    let called = taken_out(row, usize::from(k), outputs);
-    show_call(rt, "take ", k)?;
-    show_answer(rt, called.answer, "done", false)?;
+fn take_out_turn(
+    rt: &impl Print,
+    row: &mut [Record; 4],
+    k: u8,
+    outputs: &mut [u8],
+) -> io::Result<bool> {
+    let answer = willowera_cabinet_take_out(row, usize::from(k), outputs);
+    print!(rt; "take {k} ")?;
+    show_done(rt, answer)?;
     show_outputs(rt, outputs)?;
-    let after = called.row;
-    Ok(Turn {
-        goes: true,
-        row: after,
-    })
+    Ok(true)
 }
 
-// The turn of the call that is next in the input.
+// The turn of the call that is next in the input. The kind is a byte of the input, and is looked at here alone: an enum of kinds would only be
+// made and matched in this place.
 fn take_turn<R: Read>(
     rt: &(impl Print + AllocGlobal),
     input: &mut R,
-    row: [Record; 4],
+    row: &mut [Record; 4],
     outputs: &mut [u8],
-) -> io::Result<Turn> {
+) -> io::Result<bool> {
     let head = next_bytes(rt.alloc(), input, 2)?;
-    if head.len() == 0 {
-        return Ok(Turn { goes: false, row });
+    if head.is_empty() {
+        return Ok(false);
     }
-    if head.len() < 2 {
-        return cut(rt, row);
-    }
-    let k = base_bytes::byte_at(&head, 1);
-    match base_bytes::byte_at(&head, 0) {
+    let &[kind, k] = head.as_slice() else {
+        return cut(rt);
+    };
+    match kind {
         0 => place_turn(rt, input, row, k, outputs),
         1 => step_turn(rt, input, row, k, outputs),
         2 => take_out_turn(rt, row, k, outputs),
-        _ => cut(rt, row),
+        _ => cut(rt),
     }
 }
 
@@ -230,27 +167,19 @@ fn take_turn<R: Read>(
 fn run<R: Read>(
     rt: &(impl Print + AllocGlobal),
     input: &mut R,
-    row: [Record; 4],
+    row: &mut [Record; 4],
     outputs: &mut [u8],
 ) -> io::Result<()> {
-    let mut kept = row;
     for _ in 0..u64::MAX {
-        let next = take_turn(rt, input, kept, outputs)?;
-        if !next.goes {
+        if !take_turn(rt, input, row, outputs)? {
             break;
         }
-        let after = next.row;
-        kept = after;
     }
     Ok(())
 }
 
 fn main(rt: HostRuntime) -> io::Result<()> {
+    let mut row = [cabinet_records::free_record(); 4];
     let mut outputs = [0u8; 32];
-    run(
-        &rt,
-        &mut rt.stdin(),
-        [cabinet_records::free_record(); 4],
-        &mut outputs,
-    )
+    run(&rt, &mut rt.stdin(), &mut row, &mut outputs)
 }

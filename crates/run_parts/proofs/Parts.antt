@@ -1,5 +1,6 @@
 -- A step call without a number in its answer is accepted: the number of a refusal is from 1 to 255. Then its bytes are a state, and the site has at
 -- most 32 groups.
+use Rattle.std.specs.Prelude.{Ok, Err}
 use Prim.Native.Nat.{ℕ, ◌/◌, ◌%◌, ◌≤◌, ◌<◌}
 use mathlib.Core.Bool.{Bool, true, false}
 use mathlib.Core.List.{List, []}
@@ -12,8 +13,8 @@ use borrow.Author.Tests.{ltb-true, eq-eqb, ne_eqb}
 use Rattle.laws.specs.Bytes.{byte_at, eight_at}
 use Rattle.laws.proofs.Booleans.{and_right, decided, never_both}
 use Rattle.rules.specs.declared.state.KeptState.{KeptState}
-use Rattle.rules.specs.declared.answer.Verdict.{Verdict}
-use Rattle.rules.specs.declared.answer.Verdict.TheVariants.{Accepted, Refused}
+use Rattle.rules.specs.Verdicts.{Verdict}
+use Rattle.rules.specs.Verdicts.{Accepted, Refused}
 use Rattle.rules.specs.Personality.{group_count, verdict_of}
 use Rattle.rules.specs.Site.{site_of}
 use Rattle.rules.specs.Laws.{AcceptedIsSound}
@@ -38,8 +39,8 @@ Fits number place = (1 ≤ number) × (number < 256)
 
 no_number : (v : Verdict) (wait : ℕ) → Refusals Fits v → packed_outcome (bound_for v wait) % 256 ≡ 0 → v ≡ Accepted
 unfolding bound_for packed_outcome packed
-no_number Accepted wait fits e = refl
-no_number (Refused number place) wait fits e = let fit = fits number place refl in absurd (omega arith)
+no_number (Ok _) wait fits e = refl
+no_number (Err r) wait fits e = let fit = fits r.number r.place refl in absurd (omega arith)
 
 module _ (b old : List ℕ) (inputs room : ℕ) (e : step_answer b old inputs room % 256 ≡ 0) where
   accepted : step_checks b old inputs room ≡ Accepted
@@ -84,19 +85,3 @@ line-told b old n inputs read stored count shown = rw (read, stored, count, show
 
 pub nothing : (out : List ℕ) (more : Bool) → Prints (record { text = []; more = more }) out out 0 more
 nothing out more = record { text = record { size = refl; fits = omega arith; bytes = refl }; more = refl }
-
--- ── The end of the trace ──
-
--- a record after which the trace goes on is that of a step before the last
-pub before_last : (b old : List ℕ) (n : ℕ) (bytes : List ℕ) → (part_of b old n bytes).more ≡ true → n < most_steps
-unfolding part_of record_part call_part up_to_last cut
-before_last b old n bytes e =
-    let called = answer_part (step_answer b old (eight_at bytes 0) 32) (line_after b old n (eight_at bytes 0)) in
-    ⊎_elim
-    (λ (none : eqb (length bytes) 0 ≡ true). absurd (never_both (rw none at e) refl))
-    (λ (some : eqb (length bytes) 0 ≡ false).
-    ⊎_elim
-    (λ (short : ltb (length bytes) 8 ≡ true). absurd (never_both (rw (some, short) at e) refl))
-    (λ (full : ltb (length bytes) 8 ≡ false). ltb-true n most_steps (and_right called.more (ltb n most_steps) (rw (some, full) at e)))
-    (decided (ltb (length bytes) 8)))
-    (decided (eqb (length bytes) 0))

@@ -8,13 +8,13 @@ ghost use Rattle.board_step.specs.StepCall.{state_after};
 ghost use Rattle.run_parts.specs.Parts.{state_for, call_part, part_of, state_of};
 ghost use Rattle.run_parts.specs.Prints.{Prints};
 
-use rules::answer::Verdict;
+use rules::answer::Refusal;
 use state_timed::REST;
 
 // An hour of steps.
-const STEPS: u64 = 36000;
+pub const STEPS: u64 = 36000;
 
-// The length of a text, and whether the trace goes on with the next part.
+// The length of a text, and whether the trace goes on with the next part. Neither says the other: all four pairs occur, so there is no Option.
 #[derive(Clone, Copy)]
 pub struct Printed {
     pub length: usize,
@@ -67,7 +67,7 @@ pub fn personality_part(
     }
     let verdict = read_personality::read(bytes);
     board_fresh::fresh(bytes, state);
-    if let Verdict::Refused { number, place } = verdict {
+    if let Err(Refusal { number, place }) = verdict {
         return refuse(number, place as u64, out);
     }
     let length = run_text::put_header(out);
@@ -92,10 +92,8 @@ fn call_part(
         return refuse(number, answer / 256, out);
     }
     let kept = state_bytes::read(state, REST);
-    let core = kept.core;
-    let position = core.position;
-    let groups = base_bytes::byte_at(personality, 5) as usize;
-    let length = run_text::put_step(step, position, &colours[..groups], out);
+    let groups = usize::from(base_bytes::byte_at(personality, 5));
+    let length = run_text::put_step(step, kept.core.position, &colours[..groups], out);
     Printed {
         length,
         more: step < STEPS,
@@ -113,7 +111,7 @@ pub fn record_part(
     ensures { Prints (part_of personality.now state.old step bytes.now) out.old out.new result.length result.more
         × (state.new ≡ state_of personality.now state.old bytes.now) }
 {
-    if bytes.len() == 0 {
+    if bytes.is_empty() {
         return Printed {
             length: 0,
             more: false,
@@ -122,11 +120,6 @@ pub fn record_part(
     if bytes.len() < 8 {
         return refuse_cut(out);
     }
-    call_part(
-        personality,
-        state,
-        step,
-        base_bytes::eight_at(bytes, 0),
-        out,
-    )
+    let inputs = base_bytes::eight_at(bytes, 0);
+    call_part(personality, state, step, inputs, out)
 }

@@ -5,7 +5,6 @@
 
 ghost use Rattle.std.specs.Prelude.{◌+◌, ◌<◌, ◌≤◌, ◌^◌, ◌≡◌};
 
-use rules::answer::Verdict;
 use run_input::next_bytes;
 use std::alloc::Global;
 use std::fs::File;
@@ -15,19 +14,26 @@ use std::io::Read;
 // More vectors than the file has.
 const MOST: u64 = 100000;
 
-// What is next in the file: its end, or a vector and whether the reader agrees with it.
-#[derive(Clone, Copy)]
-enum Found {
-    Ended,
-    Vector { agrees: bool },
-}
-
-// How many vectors were read, how many agree, and the first that does not: counted from 1, or 0 if all agree.
-#[derive(Clone, Copy)]
+// How many vectors were read, how many agree, and the first that does not, counted from 1.
+#[derive(Clone, Copy, Default)]
 struct Tally {
     read: u64,
     agree: u64,
-    first: u64,
+    first: Option<u64>,
+}
+
+impl Tally {
+    fn count(&mut self, agrees: bool)
+        requires { (self.old.read < 2 ^ 32) × (self.old.agree ≤ self.old.read) }
+        ensures { (self.new.read ≡ self.old.read + 1) × (self.new.agree ≤ self.new.read) }
+    {
+        self.read += 1;
+        if agrees {
+            self.agree += 1;
+        } else {
+            self.first = self.first.or(Some(self.read));
+        }
+    }
 }
 
 // The greatest kind of a section.
@@ -43,8 +49,7 @@ fn whole(personality: &[u8]) -> bool {
             if left < 4 || left - 4 < body.len() {
                 return false;
             }
-            left -= 4;
-            left -= body.len();
+            left -= 4 + body.len();
         }
     }
     left == 0
@@ -52,13 +57,9 @@ fn whole(personality: &[u8]) -> bool {
 
 // Whether the reader gives this number and place, 0 at 0 if it accepts.
 fn agrees(personality: &[u8], number: u8, place: u32) -> bool {
-    let verdict = read_personality::read(personality);
-    match verdict {
-        Verdict::Accepted => number == 0 && place == 0 && whole(personality),
-        Verdict::Refused {
-            number: found,
-            place: at,
-        } => number == found && place as usize == at,
+    match read_personality::read(personality) {
+        Ok(()) => number == 0 && place == 0 && whole(personality),
+        Err(refusal) => refusal.number == number && refusal.place == place as usize,
     }
 }
 
@@ -84,48 +85,22 @@ fn take<R: Read>(alloc: Global, file: &mut R, size: u16) -> io::Result<bool> {
     compare(alloc, file, &personality)
 }
 
-fn next<R: Read>(alloc: Global, file: &mut R) -> io::Result<Found> {
+// Whether the reader agrees with the next vector, if there is one.
+fn next<R: Read>(alloc: Global, file: &mut R) -> io::Result<Option<bool>> {
     let head = next_bytes(alloc, file, 2)?;
     if head.len() < 2 {
-        return Ok(Found::Ended);
+        return Ok(None);
     }
-    let agrees = take(alloc, file, base_bytes::two_at(&head, 0))?;
-    Ok(Found::Vector { agrees })
-}
-
-fn counted(tally: Tally, i: u64, agrees: bool) -> Tally
-    requires { (tally.read < 2 ^ 32) × (tally.agree ≤ tally.read) }
-    ensures { (result.read ≡ tally.read + 1) × (result.agree ≤ result.read) }
-{
-    if agrees {
-        return Tally {
-            read: tally.read + 1,
-            agree: tally.agree + 1,
-            first: tally.first,
-        };
-    }
-    let first = tally.first;
-    Tally {
-        read: tally.read + 1,
-        agree: tally.agree,
-        first: if first == 0 { i } else { first },
-    }
+    Ok(Some(take(alloc, file, base_bytes::two_at(&head, 0))?))
 }
 
 fn run<R: Read>(alloc: Global, file: &mut R) -> io::Result<Tally> {
-    let mut tally = Tally {
-        read: 0,
-        agree: 0,
-        first: 0,
-    };
-    for i in 1..=MOST {
-        let found = next(alloc, file)?;
-        match found {
-            Found::Ended => return Ok(tally),
-            Found::Vector { agrees } => {
-                tally = counted(tally, i, agrees);
-            }
-        }
+    let mut tally = Tally::default();
+    for _ in 0..MOST {
+        let Some(agrees) = next(alloc, file)? else {
+            break;
+        };
+        tally.count(agrees);
     }
     Ok(tally)
 }
@@ -135,5 +110,5 @@ fn main(rt: HostRuntime) -> io::Result<()> {
     let tally = run(rt.alloc(), &mut file)?;
     println!(rt; "vectors {}", tally.read)?;
     println!(rt; "agree {}", tally.agree)?;
-    println!(rt; "first that differs {}", tally.first)
+    println!(rt; "first that differs {}", tally.first.unwrap_or(0))
 }

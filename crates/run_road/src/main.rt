@@ -4,14 +4,16 @@
 // error.
 #![tactic(auto)]
 
-ghost use Rattle.std.specs.Prelude.{◌≡◌, length};
+ghost use Rattle.std.specs.Prelude.{◌≡◌, length, IfOk};
 ghost use Rattle.road_run.specs.Whole.{AtStart};
 ghost use Rattle.run_road.specs.Watch.{Rows, May};
 
-use road_streams::{Stream, Traffic};
-use rules::answer::Verdict;
-use rules::site::Site;
+use read_personality::accepted;
+use road_streams::{Stream, Traffic, bad_streams};
+use rules::answer::Refusal;
 use run_input::next_bytes;
+use site_sound::SoundSite;
+use site_whole::sound_site_of;
 use std::alloc::Global;
 use std::io;
 use std::io::Read;
@@ -23,48 +25,44 @@ fn refuse(rt: &impl Print, number: u8, place: usize) -> io::Result<()> {
 
 // The line of a stream.
 fn show_stream(rt: &impl Print, stream: Stream, traffic: Traffic, longest: u16) -> io::Result<()> {
-    let detector = stream.detector;
-    let group = stream.group;
-    let rate = stream.rate;
-    let queued = traffic.queued;
-    let gone = traffic.gone;
+    let Stream {
+        detector,
+        group,
+        rate,
+    } = stream;
+    let Traffic { queued, gone, .. } = traffic;
     let arrived = u64::from(queued) + u64::from(gone);
     println!(rt; "{detector} {group} {rate} {arrived} {queued} {gone} {longest}")
 }
 
-// The table.
+// The table. The streams are bytes, so stream i is read by its number.
 #[tactic(auto, unfolding(road_streams::specs::Road::stream_count))]
-fn show(rt: &impl Print, streams: &[u8], cells: &[u16], longest: &[u16]) -> io::Result<()>
+fn show(rt: &impl Print, streams: &[u8], cells: &[Traffic], longest: &[u16]) -> io::Result<()>
     requires { Rows streams.now cells.now longest.now }
 {
     println!(rt; "detector group rate arrived queued gone longest")?;
     for i in 0..streams.len() / 4 {
         let stream = road_streams::stream_at(streams, i);
-        let traffic = road_step::traffic_at(cells, i);
-        show_stream(rt, stream, traffic, longest[i])?;
+        show_stream(rt, stream, cells[i], longest[i])?;
     }
     Ok(())
 }
 
-fn greater(a: u16, b: u16) -> u16 {
-    if a < b { b } else { a }
-}
-
-// Raises the longest queue of each stream to the queue it has now.
+// Raises the longest queue of each stream to the queue it has now. The longest queues are a row of their own, because the road's step is lent the traffic alone.
+// Both rows have room for 48 streams, so the number of streams in the bytes ends the loop.
 #[tactic(auto, unfolding(road_streams::specs::Road::stream_count))]
-fn watch(streams: &[u8], cells: &[u16], longest: &mut [u16])
+fn watch(streams: &[u8], cells: &[Traffic], longest: &mut [u16])
     requires { Rows streams.now cells.now longest.old }
     ensures { length longest.new ≡ length longest.old }
 {
     for i in 0..streams.len() / 4 {
-        let traffic = road_step::traffic_at(cells, i);
-        longest[i] = greater(longest[i], traffic.queued);
+        longest[i] = longest[i].max(cells[i].queued);
     }
 }
 
 // The steps of the road, watched.
-fn run(site: Site, streams: &[u8], steps: u32, cells: &mut [u16], longest: &mut [u16])
-    requires { AtStart site streams.now steps cells.old × Rows streams.now cells.old longest.old }
+fn run(site: &SoundSite, streams: &[u8], steps: u32, cells: &mut [Traffic], longest: &mut [u16])
+    requires { AtStart site.now streams.now steps cells.old × Rows streams.now cells.old longest.old }
     ensures { Rows streams.now cells.new longest.new }
 {
     let mut state = state_fresh::fresh();
@@ -75,28 +73,36 @@ fn run(site: Site, streams: &[u8], steps: u32, cells: &mut [u16], longest: &mut 
 }
 
 // The road and its table.
-fn run_and_show(rt: &impl Print, site: Site, streams: &[u8], steps: u32) -> io::Result<()>
-    requires { May site streams.now steps }
+fn run_and_show(rt: &impl Print, site: &SoundSite, streams: &[u8], steps: u32) -> io::Result<()>
+    requires { May site.now streams.now steps }
 {
-    let mut cells = [0u16; 192];
+    let mut cells = [Traffic::NONE; 48];
     let mut longest = [0u16; 48];
     run(site, streams, steps, &mut cells, &mut longest);
     show(rt, streams, &cells, &longest)
 }
 
+// The site of a personality, if neither it nor the streams are refused.
+fn site_for(personality: &[u8], streams: &[u8], steps: u32) -> Result<SoundSite, Refusal>
+    ensures { IfOk result (λ site. May site streams.now steps) }
+{
+    let p = accepted(personality)?;
+    let site = sound_site_of(&p);
+    if bad_streams(&site, streams, steps) {
+        return Err(Refusal {
+            number: 22,
+            place: 0,
+        });
+    }
+    Ok(site)
+}
+
 // The checks, and then the road.
 fn try_road(rt: &impl Print, personality: &[u8], streams: &[u8], steps: u32) -> io::Result<()> {
-    let reading = read_personality::read_with_layout(personality);
-    let verdict = reading.verdict;
-    if let Verdict::Refused { number, place } = verdict {
-        return refuse(rt, number, place);
+    match site_for(personality, streams, steps) {
+        Ok(site) => run_and_show(rt, &site, streams, steps),
+        Err(Refusal { number, place }) => refuse(rt, number, place),
     }
-    let layout = reading.layout;
-    let site = site_whole::site_of(personality, layout);
-    if road_streams::bad_streams(site, streams, steps) {
-        return refuse(rt, 22, 0);
-    }
-    run_and_show(rt, site, streams, steps)
 }
 
 // The road of a personality that should have `size` bytes. One that is cut short is refused before its own checks, and so is a cut number of steps. At most

@@ -1,15 +1,7 @@
 -- Internal: no promise cites this file. What comes out of a trace: a buffer with a line's text at its start.
-use Rattle.std.specs.Prelude.{ℕ, ◌+◌, ◌≤◌, List, [], ◌∷◌, ◌++◌, map, ◌≡◌, leb, length, take, drop, if◌then◌else◌}
+use Rattle.std.specs.Prelude.{ℕ, ◌+◌, ◌≤◌, List, ◌++◌, ◌≡◌, leb, length, take, drop, if◌then◌else◌}
 use Rattle.rules.specs.declared.state.Position.{Position}
-use Rattle.rules.specs.IntervalTable.{letter_of}
-use Rattle.rules.specs.TraceText.{phase_letter, colour_letter, line_tail}
-
--- the two parts of a line's tail: up to the groups' letters, and from there on
-unfoldable pub leading : Position → List ℕ
-leading position = 32 ∷ phase_letter position.phase ∷ 32 ∷ letter_of position.interval ∷ 32 ∷ []
-
-unfoldable pub shown : List ℕ → List ℕ
-shown colours = map colour_letter colours ++ (10 ∷ [])
+use Rattle.rules.specs.TraceText.{line_tail}
 
 -- the length of the tail, or 0 if the buffer is too short
 unfoldable pub tail_length : ℕ → ℕ → ℕ

@@ -2,7 +2,6 @@
 // the table.
 #![tactic(auto)]
 
-use sheet_yellow::Answer;
 use std::io;
 
 // The speeds are 40 to 110 km/h.
@@ -17,8 +16,7 @@ const GRADES: [i32; 21] = [
 
 // The line of one entry, nothing if it is out of range.
 fn show(rt: &impl Print, speed: u32, grade: i32) -> io::Result<()> {
-    let answer = sheet_yellow::rule::by_rule(speed, grade);
-    if let Answer::Yellow { steps } = answer {
+    if let Ok(steps) = sheet_yellow::rule::by_rule(speed, grade) {
         println!(rt; "    {steps},")?;
     }
     Ok(())
