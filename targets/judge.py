@@ -21,6 +21,7 @@ BOUND = [
     (re.compile(r"\b(x86_\w+|win64cc|ppc_fp128|fp128|half|bfloat|cc ?\d+)\b"), "a type or calling convention of one processor"),
     (re.compile(r"\b(invoke|landingpad|callbr|indirectbr|blockaddress)\b"), "an exception or an indirect branch"),
     (re.compile(r"\bgetelementptr (?!((inbounds|nuw|nusw) )*i8,)"), "an offset that is not counted in bytes"),
+    (re.compile(r"\b(load|store) \{"), "a read or write of several values at once"),
     (re.compile(r"\balloca (?!(i8|i16|i32|i64|double|ptr|\[\d+ x i8\]),)"), "a variable that is not a number, a pointer or bytes"),
 ]
 

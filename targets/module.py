@@ -20,6 +20,7 @@ from pathlib import Path
 from catch import catch, same_object
 from judge import judge
 from kit import BUILT, ROOT, TOOLS, Alone, Refused, kit, said_by, told, tool
+from unpack import unpacked
 
 KEPT = BUILT / "module"
 ARCHIVE = ROOT / "target" / "staticlib" / "libwillowera.a"
@@ -55,7 +56,7 @@ def module():
             caught = catch(Path(room) / "catch", ["tools/library.sh"])
             same_object(caught, ARCHIVE)
             shutil.copy(caught / "module.bc", KEPT / "module.bc")
-        text.write_text(text_of(KEPT / "module.bc").replace(PROCESSOR, ""))
+        text.write_text(unpacked(text_of(KEPT / "module.bc").replace(PROCESSOR, "")))
         key.write_text(now)
     judge(text.read_text())
     return text

@@ -52,6 +52,7 @@ MODULES = [
     ("a fence", before_call("  fence seq_cst"), "it has an atomic or volatile access"),
     ("an atomic sum", before_call("  %v = atomicrmw add ptr %a0, i64 1 seq_cst"), "it has an atomic or volatile access"),
     ("a pointer as a number", before_call("  %v = ptrtoint ptr %a0 to i64"), "it has a pointer as a number"),
+    ("several values read at once", before_call("  %v = load { i8, ptr }, ptr %a0"), "it has a read or write of several values at once"),
     ("a long double", before_call("  %v = fpext double %a3 to x86_fp80"), "it has a type or calling convention of one processor"),
     ("a calling convention", instead("define noundef i64 @willowera_one", "define x86_vectorcallcc i64 @willowera_one"),
      "it has a type or calling convention of one processor"),
