@@ -68,7 +68,7 @@ Core = namedtuple('Core', 'definitions ways outside wrong')
 # ── Words ──
 
 MODIFIERS = r'(?:(?:pub|unfoldable|abbrev|opaque) )*'
-MACHINE_TYPES = {'bool', 'u8', 'u16', 'u32', 'u64', 'usize', 'i8', 'i16', 'i32', 'i64', 'f64'}
+MACHINE_TYPES = {'bool', 'u8', 'u16', 'u32', 'u64', 'usize', 'i8', 'i16', 'i32', 'i64', 'f64', 'Option'}
 
 
 def words_of(text):

@@ -83,13 +83,13 @@ def functions_in(path, text):
     text = '\n'.join(code(line, '//') for line in text.split('\n'))
     module = '' if re.search(r'/(lib|main)\.rt$', path) else re.search(r'(\w+)\.rt$', path).group(1) + '::'
     found, wrong = [], []
-    for m in re.finditer(r'(?m)^ *pub (?:extern "C" )?fn (\w+)(?:<[^>]*>)?\(', text):
+    for m in re.finditer(r'(?m)^ *pub (?:extern "C" )?fn (\w+)(?:<(?:->|[^<>])*>)?\(', text):
         label = f'{path.split("/")[1]}::{module}{m.group(1)}'
         end = close_of(text, m.end() - 1)
         lent = re.findall(r"(\w+): &(?:'\w+ )?mut ", text[m.end():end])
-        answer = re.match(r'\s*->\s*(.+?)\s*(?=\n *(?:requires|ensures)\b|\n *\{|\{)', text[end + 1:])
+        answer = re.match(r'\s*->\s*(.+?)\s*(?=\n *(?:requires|ensures|ghost)\b|\n *\{|\{)', text[end + 1:])
         at, facts = end + 1 + (answer.end() if answer else 0), []
-        while clause := re.match(r'\s*(requires|ensures)(?: \w+)?\s*\{', text[at:]):
+        while clause := re.match(r'\s*(requires|ensures|ghost)(?: \w+)?:?\s*\{', text[at:]):
             last = close_of(text, at + clause.end() - 1)
             if clause.group(1) == 'ensures':
                 facts.append(fact_of(text[at + clause.end():last]))
@@ -233,7 +233,7 @@ def self_test():
     page, tree = trusted.read(PAGE), Tree()
     rows = [line for line in page[page.index(BEGIN):page.index(END)].split('\n') if line.startswith('| `')]
     label = re.search(r'`(\w+::[\w:]+)`', rows[0]).group(1)
-    exports, lookup, cells = core.EXPORTS, 'crates/read_lookup/src/lib.rt', 'crates/road_step/specs/OnRoad.antt'
+    exports, pairs, cells = core.EXPORTS, 'crates/read_sections/src/records.rt', 'crates/road_step/specs/OnRoad.antt'
     bytes_, new = 'crates/base_bytes/src/lib.rt', 'crates/base_bytes/src/added.rt'
 
     def changed(path, *pairs):
@@ -252,7 +252,7 @@ def self_test():
         'an equation behind a quantifier': (changed(bytes_, (one, '{ (k : ℕ) → result ≡ byte_at s.now i }')), 'base_bytes::byte_at leaves open'),
         'an equation of the answer with itself': (changed(bytes_, (one, '{ result ≡ result }')), 'base_bytes::byte_at leaves open: answer (by nothing)'),
         'a relation in the place of an equation': (changed(bytes_, (one, '{ SomeByte s.now i result }')), 'base_bytes::byte_at leaves open: answer (by `SomeByte`)'),
-        'a field of an answer without its equation': (changed(lookup, ('× (result.head ≡ head_of', '× (result.head ≤ head_of')), 'read_lookup::find leaves open'),
+        'a field of an answer without its equation': (changed(pairs, ('× (result.second ≡ byte_at', '× (result.second ≤ byte_at')), 'read_sections::records::pair_at leaves open'),
         'a field taken out of a relation': (changed(cells, ('  pub rest : ', '  -- ')), 'the contract of road_step::road_steps goes by `Further` (`same`, `road`)'),
         'a contract in another form': (changed(bytes_, (one, '{ ⌜ result ≡ 0 ⌝ ∗ ⌜ result ≡ 0 ⌝ }')), 'not understood'),
     }
