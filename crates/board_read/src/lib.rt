@@ -75,6 +75,6 @@ pub fn section(personality: &[u8], kind: u16) -> u64
 {
     match read_lookup::find(personality, kind) {
         Ok(head) => part(head + 4, two_at(personality, head)),
-        Err(Refusal { number, place }) => refusal(number, place),
+        Err(missing) => refusal(missing.refusal.number, missing.refusal.place),
     }
 }

@@ -20,7 +20,7 @@ pub none_of : (l : List ℕ) → length l ≡ 0 → l ≡ []
 none_of [] e = refl
 none_of (x ∷ l) e = absurd (omega (arith, e))
 
-copied : (from old : List ℕ) → length from ≤ length old → sets old 0 from ≡ from ++ drop (length from) old
+pub copied : (from old : List ℕ) → length from ≤ length old → sets old 0 from ≡ from ++ drop (length from) old
 copied from old fits = rw (sets-eq from old 0 (omega arith), zero-add (length from)) refl
 
 -- bytes stored from the start on, and zeros stored back behind them

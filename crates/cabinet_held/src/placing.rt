@@ -1,18 +1,19 @@
 // Placing a personality: its checks, its outputs and its fresh state.
-ghost use Rattle.std.specs.Prelude.{not, ◌≡◌, ltb, length, IfOk};
-ghost use Rattle.rules.specs.Verdicts.{Refused};
+ghost use Rattle.std.specs.Prelude.{not, ◌≡◌, ltb, length, Err, IfErr, IfOk};
+ghost use Rattle.rules.specs.Verdicts.{Accepted, Refused};
 ghost use Rattle.rules.specs.Call.{bound_for};
 ghost use Rattle.rules.specs.Personality.{verdict_of};
 ghost use Rattle.rules.specs.Site.{site_of};
 ghost use Rattle.rules.specs.Timed.{fresh_timed};
 ghost use Rattle.rules.specs.Verdicts.{verdict, ◌or_else◌, refuse_if};
+ghost use Rattle.read_layout.specs.LayoutOf.{LayoutOf};
 ghost use Rattle.state_timed.specs.TimedLayout.{timed_encoded_over};
 ghost use Rattle.board_answers.specs.Answers.{packed_verdict};
 ghost use Rattle.cabinet_held.specs.Held.{placing_checks, reddened};
 
 use crate::{RED, outputs_of, past_last};
 use board_answers::answer;
-use read_layout::Personality;
+use read_layout::{Layout, Personality, layout_of};
 use read_personality::accepted;
 use rules::answer::Refusal;
 
@@ -42,10 +43,9 @@ fn checks(free: bool, taken: bool, room: usize) -> Result<(), Refusal>
     Ok(())
 }
 
-// Turns the outputs of a personality red, if it may be placed. `met` says whether another record has one of them. The accepted personality
-// is for the fresh state, so that it is read once.
+// Turns the outputs of a personality red, if it may be placed.
 #[tactic(auto, using(rules::proofs::Checks::checks), unfolding(rules::specs::Call::handed_back, crate::specs::Held::placing_checks, crate::specs::Held::turned))]
-pub fn held_placing<'a>(
+fn reddened<'a>(
     personality: &'a [u8],
     free: bool,
     met: bool,
@@ -61,6 +61,37 @@ pub fn held_placing<'a>(
     checks(free, past_last(first, count) || met, outputs.len())?;
     outputs[first..first + usize::from(count)].fill(RED);
     Ok(p)
+}
+
+// Why a personality is not placed, and the places of its sections.
+#[derive(Clone, Copy)]
+pub struct Unplaced {
+    pub refusal: Refusal,
+    pub layout: Layout,
+}
+
+// Turns the outputs of a personality red, if it may be placed. `met` says whether another record has one of them. The accepted personality
+// is for the fresh state, so that it is read once.
+#[tactic(auto, using(rules::proofs::Checks::checks))]
+pub fn held_placing<'a>(
+    personality: &'a [u8],
+    free: bool,
+    met: bool,
+    first: usize,
+    outputs: &mut [u8],
+) -> Result<Personality<'a>, Unplaced>
+    ensures placed { IfOk result (λ p. (placing_checks personality.now free met first (length outputs.old) ≡ Accepted) × (p ≡ personality.now)) }
+    ensures unplaced { IfErr result (λ u. (placing_checks personality.now free met first (length outputs.old) ≡ Err u.refusal)
+        × LayoutOf personality.now u.layout) }
+    ensures outputs { outputs.new ≡ reddened personality.now free met first outputs.old }
+{
+    match reddened(personality, free, met, first, outputs) {
+        Ok(p) => Ok(p),
+        Err(refusal) => Err(Unplaced {
+            refusal,
+            layout: layout_of(personality),
+        }),
+    }
 }
 
 #[tactic(auto, using(rules::proofs::Checks::checks), unfolding(rules::specs::Call::bound_for))]

@@ -72,7 +72,7 @@ pub fn place(
             placing::fresh_state(&p, &mut own.state);
             0
         }
-        Err(Refusal { number, place }) => board_answers::refusal(number, place),
+        Err(unplaced) => board_answers::refusal(unplaced.refusal.number, unplaced.refusal.place),
     }
 }
 

@@ -2,8 +2,8 @@
 // does not hold the kind. A second function gives the number and place.
 #![tactic(auto)]
 
-ghost use Rattle.std.specs.Prelude.{◌≤◌, ◌≡◌, IfOk};
-ghost use Rattle.rules.specs.Verdicts.{verdict};
+ghost use Rattle.std.specs.Prelude.{◌≤◌, ◌≡◌, Err, IfErr, IfOk};
+ghost use Rattle.rules.specs.Verdicts.{Accepted};
 ghost use Rattle.rules.specs.Lookup.{held_kind, head_of, lookup_verdict, lookup_report, section_of};
 
 use base_bytes::two_at;
@@ -45,22 +45,42 @@ fn head_of(sections: &Sections, kind: u16) -> usize
     }
 }
 
+// Why a lookup finds no section, and the place of the head that the kind would have.
+#[derive(Clone, Copy)]
+pub struct Missing {
+    pub refusal: Refusal,
+    pub head: usize,
+}
+
 // The lookup of a kind: the head of its section. The personality is read once, and its layout has the head. The personality's own refusal comes
 // first, and then 2 at 0 for a kind that is not held.
 #[tactic(auto, using(rules::proofs::Checks::checks), unfolding(rules::specs::Lookup::lookup_verdict))]
-pub fn find(personality: &[u8], kind: u16) -> Result<usize, Refusal>
-    ensures verdict { verdict result ≡ lookup_verdict personality.now kind }
-    ensures head { IfOk result (λ head. (head ≡ head_of personality.now kind) × (head ≤ 201227)) }
+pub fn find(personality: &[u8], kind: u16) -> Result<usize, Missing>
+    ensures found { IfOk result (λ head. (lookup_verdict personality.now kind ≡ Accepted)
+        × (head ≡ head_of personality.now kind) × (head ≤ 201227)) }
+    ensures missing { IfErr result (λ m. (lookup_verdict personality.now kind ≡ Err m.refusal)
+        × (m.head ≡ head_of personality.now kind) × (m.head ≤ 201227)) }
 {
-    let p = accepted(personality)?;
-    let sections = &p.sections;
-    if !held_kind(sections, kind) {
-        return Err(Refusal {
-            number: 2,
-            place: 0,
-        });
+    match accepted(personality) {
+        Ok(p) => {
+            let sections = &p.sections;
+            let head = head_of(sections, kind);
+            if held_kind(sections, kind) {
+                return Ok(head);
+            }
+            Err(Missing {
+                refusal: Refusal {
+                    number: 2,
+                    place: 0,
+                },
+                head,
+            })
+        }
+        Err(refusal) => Err(Missing {
+            refusal,
+            head: head_of(&Sections::new(personality), kind),
+        }),
     }
-    Ok(head_of(sections, kind))
 }
 
 // The part of the personality that is the body of the kind's section.
@@ -87,6 +107,9 @@ pub fn lookup_report(personality: &[u8], kind: u16) -> Report
             number: 0,
             place: 0,
         },
-        Err(Refusal { number, place }) => Report { number, place },
+        Err(missing) => Report {
+            number: missing.refusal.number,
+            place: missing.refusal.place,
+        },
     }
 }

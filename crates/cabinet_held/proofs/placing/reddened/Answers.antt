@@ -7,7 +7,7 @@ use Rattle.cabinet_records.specs.Cabinet.{outputs_of}
 use Rattle.cabinet_held.specs.Held.{placing_checks}
 use Rattle.cabinet_held.proofs.Checks.{placing-fits, placing-within}
 use Rattle.cabinet_held.proofs.Turned.{turned-filled}
-use Rattle.cabinet_held.proofs.placing.held_placing.Goals as goal
+use Rattle.cabinet_held.proofs.placing.reddened.Goals as goal
 
 passed : (c : goal.After-from) → let a = c.args in placing_checks a.personality.now a.free a.met a.first (length a.outputs.now) ≡ Accepted
 unfolding placing_checks
