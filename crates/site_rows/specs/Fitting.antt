@@ -18,6 +18,6 @@ pub record Fitting (b : List ℕ) (w : Layout) : Type 0 where
   pub early : w.hasearly ≡ true → body_at w.early + w.phasecount * 2 ≤ length b
   pub order : w.hasorder ≡ true → body_at w.order + w.phasecount ≤ length b
 
--- the groups, and the phase set of each movement's group
+-- the groups, how many movements the site has, and the phase set of each movement's group
 unfoldable pub group_rows_in : List ℕ → GroupRows
-group_rows_in b = record { groups = (site_of b).groups; crossings = (site_of b).crossings }
+group_rows_in b = record { groups = (site_of b).groups; movements = movement_count b; crossings = (site_of b).crossings }

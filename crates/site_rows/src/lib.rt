@@ -3,12 +3,14 @@
 #![tactic(auto)]
 
 ghost use Rattle.std.specs.Prelude.{◌<◌, ◌≡◌};
-ghost use Rattle.rules.specs.Personality.{detector_count, phase_count};
+ghost use Rattle.rules.specs.Verdicts.{Accepted};
+ghost use Rattle.rules.specs.Personality.{detector_count, phase_count, verdict_of};
 ghost use Rattle.rules.specs.Site.{order_in, site_of};
-ghost use Rattle.site_rows.specs.Fitting.{group_rows_in};
+ghost use Rattle.read_layout.specs.LayoutOf.{LayoutOf};
+ghost use Rattle.site_rows.specs.Fitting.{Fitting, group_rows_in};
 
 use base_bytes::{byte_in, four_in};
-use read_layout::{Layout, Personality};
+use read_layout::{Layout, Personality, Sections};
 use read_sections::records::pair_at;
 use rules::site::{Detector, Group};
 use std::marker::Model;
@@ -34,6 +36,18 @@ impl<'a> Model for Fitted<'a> {
 }
 
 impl<'a> Fitted<'a> {
+    // Bytes that fit a site: their movements are counted.
+    pub fn new(bytes: &'a [u8], layout: &'a Layout) -> Self
+        requires { Fitting bytes.now layout.now }
+        ensures { result ≡ bytes.now }
+    {
+        Fitted {
+            bytes,
+            layout,
+            movements: rows_of(bytes, layout).movements,
+        }
+    }
+
     // An accepted personality fits a site.
     pub fn of(p: &'a Personality<'a>) -> Self
         ensures { result ≡ p.now }
@@ -47,24 +61,38 @@ impl<'a> Fitted<'a> {
     }
 }
 
+// An accepted personality and the places of its sections: its movements are counted.
+pub fn personality_of<'a>(bytes: &'a [u8], layout: Layout) -> Personality<'a>
+    requires { (verdict_of bytes.now ≡ Accepted) × LayoutOf bytes.now layout }
+    ensures { result ≡ bytes.now }
+{
+    let movements = rows_of(bytes, &layout).movements;
+    Personality {
+        sections: Sections { bytes, layout },
+        movements,
+    }
+}
+
 // ---- Groups, with their movements ----
 
-// The groups, and the phase sets of the pedestrian ones in group order: each has a movement.
+// The groups, and of the pedestrian ones, each with a movement: how many there are, and their phase sets in group order.
 #[derive(Clone, Copy)]
 pub struct GroupRows {
     pub groups: [Group; 32],
+    pub movements: usize,
     pub crossings: [u8; 8],
 }
 
-pub fn group_rows_in(f: &Fitted) -> GroupRows
-    ensures { result ≡ group_rows_in f.now }
+fn rows_of(bytes: &[u8], layout: &Layout) -> GroupRows
+    requires { Fitting bytes.now layout.now }
+    ensures { result ≡ group_rows_in bytes.now }
 {
     let blank = Group { phases: 0, mark: 0 };
     let mut groups = [blank; 32];
     let mut movements = 0;
     let mut crossings = [0; 8];
-    for g in 0..usize::from(f.layout.groupcount) {
-        let group = pair_at(f.bytes, f.layout.groups, g);
+    for g in 0..usize::from(layout.groupcount) {
+        let group = pair_at(bytes, layout.groups, g);
         groups[g] = Group {
             phases: group.first,
             mark: group.second,
@@ -74,7 +102,17 @@ pub fn group_rows_in(f: &Fitted) -> GroupRows
             movements += 1;
         }
     }
-    GroupRows { groups, crossings }
+    GroupRows {
+        groups,
+        movements,
+        crossings,
+    }
+}
+
+pub fn group_rows_in(f: &Fitted) -> GroupRows
+    ensures { result ≡ group_rows_in f.now }
+{
+    rows_of(f.bytes, f.layout)
 }
 
 // ---- Conflicts, detectors ----

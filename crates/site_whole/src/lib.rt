@@ -80,7 +80,11 @@ fn site_times(f: &Fitted, bytes: &[u8], at: usize) -> Times
 fn decoded(f: &Fitted, times: Times) -> Site
     ensures { result ≡ under (site_of f.now) times }
 {
-    let GroupRows { groups, crossings } = group_rows_in(f);
+    let GroupRows {
+        groups,
+        crossings,
+        ..
+    } = group_rows_in(f);
     let size = size(f);
     Site {
         size,
