@@ -85,3 +85,19 @@ line-told b old n inputs read stored count shown = rw (read, stored, count, show
 
 pub nothing : (out : List ℕ) (more : Bool) → Prints (record { text = []; more = more }) out out 0 more
 nothing out more = record { text = record { size = refl; fits = omega arith; bytes = refl }; more = refl }
+
+-- ── The end of the trace ──
+
+-- a record after which the trace goes on is that of a step before the last
+pub before_last : (b old : List ℕ) (n : ℕ) (bytes : List ℕ) → (part_of b old n bytes).more ≡ true → n < most_steps
+unfolding part_of record_part call_part up_to_last cut
+before_last b old n bytes e =
+    let called = answer_part (step_answer b old (eight_at bytes 0) 32) (line_after b old n (eight_at bytes 0)) in
+    ⊎_elim
+    (λ (none : eqb (length bytes) 0 ≡ true). absurd (never_both (rw none at e) refl))
+    (λ (some : eqb (length bytes) 0 ≡ false).
+    ⊎_elim
+    (λ (short : ltb (length bytes) 8 ≡ true). absurd (never_both (rw (some, short) at e) refl))
+    (λ (full : ltb (length bytes) 8 ≡ false). ltb-true n most_steps (and_right called.more (ltb n most_steps) (rw (some, full) at e)))
+    (decided (ltb (length bytes) 8)))
+    (decided (eqb (length bytes) 0))

@@ -12,7 +12,7 @@ use rules::answer::Refusal;
 use state_timed::REST;
 
 // An hour of steps.
-pub const STEPS: u64 = 36000;
+const STEPS: u64 = 36000;
 
 // The length of a text, and whether the trace goes on with the next part. Neither says the other: all four pairs occur, so there is no Option.
 #[derive(Clone, Copy)]

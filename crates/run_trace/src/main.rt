@@ -7,7 +7,7 @@ ghost use Rattle.std.specs.Prelude.{◌≤◌, ◌≡◌, length, take, IfOk, On
 ghost use Rattle.std.specs.Io.KnownBytes.{Appends};
 
 use run_input::next_bytes;
-use run_parts::{Printed, STEPS};
+use run_parts::Printed;
 use state_timed::TIMED_BYTES;
 use std::alloc::Global;
 use std::io;
@@ -32,12 +32,13 @@ fn records<R: Read, W: Write>(
     state: &mut [u8; 336],
 ) -> io::Result<()> {
     let mut text = [0u8; 64];
-    for step in 1..=STEPS {
+    let mut step: u64 = 1;
+    let mut more = true;
+    while more {
         let bytes = next_bytes(alloc, input, 8)?;
         let part = run_parts::record_part(personality, state, step, &bytes, &mut text);
-        if !write(output, part, &text)? {
-            break;
-        }
+        more = write(output, part, &text)?;
+        step += 1;
     }
     Ok(())
 }
