@@ -7,8 +7,8 @@
 
 It prints a line for each name that does not exist: file, line, the name and what was looked for. The exit status is 1 if there is one.
 
-Documents are all .md files of the repository. The notes in docs/changes describe the tree at the time of a change, and docs/PORT.md and
-docs/DESIGN-PASS.md name what things were called, so only their links are checked.
+Documents are all .md files of the repository. The notes in docs/changes describe the tree at the time of a change, and docs/PORT.md,
+docs/DESIGN-PASS.md and docs/LOOK-BACK.md name what things were called, so only their links are checked.
 
 The rules. In backticks:
 
@@ -54,7 +54,7 @@ from collections import defaultdict, namedtuple
 
 ROOT = os.path.dirname(os.path.dirname(os.path.abspath(__file__)))
 LINKS_ONLY = 'docs/changes/'
-OLD_NAMES = ('docs/PORT.md', 'docs/DESIGN-PASS.md')
+OLD_NAMES = ('docs/PORT.md', 'docs/DESIGN-PASS.md', 'docs/LOOK-BACK.md')
 PLACEHOLDERS = ('NAME', 'LABEL', 'FILE', 'MODULE', 'FUNCTION')
 CRATE_COMMANDS = r'\brt (?:ci|check|must-fail|lib|run|test|try)((?: +[a-z_][a-z0-9_]*)+)'
 
